@@ -1,0 +1,7 @@
+// What travels on the cable, and what every station on it means.
+pub mod address;
+pub mod parity;
+pub mod patient;
+pub mod phase;
+pub mod station;
+pub mod wish;

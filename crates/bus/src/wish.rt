@@ -1,0 +1,75 @@
+// What a station wants of the cable.
+use super::address::IdByte;
+use super::parity::Parity;
+use super::phase::Phase;
+ghost use mathlib.Core.Path.{_≡_};
+ghost use Rattle.std.specs.Vec.{listOf};
+ghost use Rattle.bus.specs.Wishes.{wish-kind, asking, offers, takes-byte, is-off};
+
+// A station's wish: what it does on the cable until it is chosen or told.
+#[derive(Clone, Copy)]
+pub enum Wish {
+    // It drives no line.
+    Off,
+    // It tries to reselect: the ID byte on the data lines, with its parity.
+    Back(IdByte, Parity),
+    // It keeps a phase, with REQ off.
+    Hold(Phase),
+    // REQ is on. In an input phase the byte is on the data lines, with its parity; in an output phase
+    // there is nothing to show, and nobody looks at the two.
+    Req(Phase, u8, Parity),
+    // It drops BSY.
+    Go,
+}
+
+impl Wish {
+    // The number of the case: 0 Off, 1 Back, 2 Hold, 3 Req, 4 Go.
+    pub fn kind(self) -> u8
+        ensures { λ r. ⌜ r ≡ wish-kind self ⌝ }
+    {
+        match self {
+            Wish::Off => 0,
+            Wish::Back(_, _) => 1,
+            Wish::Hold(_) => 2,
+            Wish::Req(_, _, _) => 3,
+            Wish::Go => 4,
+        }
+    }
+
+    // A Req in this phase: the byte and its parity for an input, zero and good for an output.
+    pub fn req(phase: Phase, byte: u8, parity: Parity) -> Self
+        ensures { λ r. ⌜ r ≡ asking phase byte parity ⌝ }
+    {
+        if phase.is_input() {
+            Wish::Req(phase, byte, parity)
+        } else {
+            Wish::Req(phase, 0, Parity::Good)
+        }
+    }
+
+    // The Data In byte that the wish shows.
+    pub fn data_in(self) -> Option<u8>
+        ensures { λ r. ⌜ listOf r ≡ offers self ⌝ }
+    {
+        match self {
+            Wish::Req(Phase::DataIn, byte, _) => Some(byte),
+            _ => None,
+        }
+    }
+
+    // Whether the station asks for a byte: a Req in an output phase.
+    pub fn takes_byte(self) -> bool
+        ensures { λ r. ⌜ r ≡ takes-byte self ⌝ }
+    {
+        match self {
+            Wish::Req(phase, _, _) => !phase.is_input(),
+            _ => false,
+        }
+    }
+
+    pub fn is_off(self) -> bool
+        ensures { λ r. ⌜ r ≡ is-off self ⌝ }
+    {
+        self.kind() == 0
+    }
+}
