@@ -1,2 +1,3 @@
 mod Ids
-mod Courses
+pub mod Clauses
+pub mod Courses

@@ -1,5 +1,8 @@
 // The parity of a byte on the cable.
 ghost use mathlib.Core.Path.{_≡_};
+ghost use lib.Dec.{ltb};
+ghost use Rattle.std.specs.Options.{isSome};
+ghost use Rattle.std.specs.Slices.{found};
 ghost use Rattle.std.specs.declared.option.Option.the-variants.{Some};
 ghost use Rattle.bus.specs.Parities.{parity-number, parity-numbered, parity-name};
 use std::fmt;
@@ -21,7 +24,9 @@ impl Parity {
 
     // The parity with this number; there are two.
     pub fn numbered(number: u8) -> Option<Parity>
-        ensures { λ r. ⌜ r ≡ parity-numbered number ⌝ }
+        ensures value { λ r. ⌜ r ≡ parity-numbered number ⌝ }
+        ensures test { λ r. ⌜ isSome r ≡ ltb number 2 ⌝ }
+        ensures back { λ r. ⌜ found r (λ p. parity-number p ≡ number) ⌝ }
     {
         match number {
             0 => Some(Parity::Good),

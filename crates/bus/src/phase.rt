@@ -1,6 +1,9 @@
 // The phases of the bus.
 ghost use mathlib.Core.Path.{_≡_};
 ghost use Prim.Native.Nat.{_<_};
+ghost use lib.Dec.{ltb};
+ghost use Rattle.std.specs.Options.{isSome};
+ghost use Rattle.std.specs.Slices.{found};
 ghost use Rattle.std.specs.declared.option.Option.the-variants.{Some};
 ghost use Rattle.bus.specs.Phases.{phase-number, phase-numbered, phase-name, is-input};
 use std::fmt;
@@ -30,7 +33,9 @@ impl Phase {
 
     // The phase with this number; there are eight.
     pub fn numbered(number: u8) -> Option<Phase>
-        ensures { λ r. ⌜ r ≡ phase-numbered number ⌝ }
+        ensures value { λ r. ⌜ r ≡ phase-numbered number ⌝ }
+        ensures test { λ r. ⌜ isSome r ≡ ltb number 8 ⌝ }
+        ensures back { λ r. ⌜ found r (λ p. phase-number p ≡ number) ⌝ }
     {
         match number {
             0 => Some(Phase::DataOut),
