@@ -1,10 +1,13 @@
 // What a station wants of the cable.
 use super::address::IdByte;
 use super::parity::Parity;
+use super::parity::ParityDisplay;
 use super::phase::Phase;
+use super::phase::PhaseDisplay;
 ghost use mathlib.Core.Path.{_≡_};
 ghost use Rattle.std.specs.Vec.{listOf};
 ghost use Rattle.bus.specs.Wishes.{wish-kind, asking, offers, takes-byte, is-off};
+use std::fmt;
 
 // A station's wish: what it does on the cable until it is chosen or told.
 #[derive(Clone, Copy)]
@@ -71,5 +74,24 @@ impl Wish {
         ensures { λ r. ⌜ r ≡ is-off self ⌝ }
     {
         self.kind() == 0
+    }
+}
+
+// In words: the phase by its name, the byte of an input in hex, and its parity.
+pub impl fmt::Display for Wish as WishDisplay {
+    fn fmt<W: fmt::Write>(&self, f: &mut fmt::Formatter<W>) -> fmt::Result {
+        match *self {
+            Wish::Off => write!(f, "Off"),
+            Wish::Back(id, parity) => write!(f, "Back {:02x}h, {parity} parity", id.bits()),
+            Wish::Hold(phase) => write!(f, "Hold {phase}"),
+            Wish::Req(phase, byte, parity) => {
+                if phase.is_input() {
+                    write!(f, "Req {phase} {byte:02x}h, {parity} parity")
+                } else {
+                    write!(f, "Req {phase}")
+                }
+            }
+            Wish::Go => write!(f, "Go"),
+        }
     }
 }
