@@ -1,16 +1,17 @@
 -- Decoding an ID byte by its bits gives what the definition says: one test, computed at each address and each byte.
 use mathlib.Core.Path.{_≡_, refl, sym, ap, _∙_}
-use mathlib.Core.Bool.{Bool, true, false, cond, not, _&&_, _||_}
+use mathlib.Core.Bool.{Bool, true, false, _&&_}
 use mathlib.Core.Logic.{_⊎_, inl, inr, ⊎-elim}
-use Prim.Native.Nat.{ℕ, zero, suc, _^_, _<_}
+use Prim.Native.Nat.{ℕ, zero, suc, _%_, _<_}
+use native.Mathlib.Nat.{mod-eq-of-lt}
 use native.Mathlib.Omega.{arith}
-use lib.Bits.{bitAnd, bitXor}
-use lib.Count.{ones, onesIn, trailingZeros, under}
+use lib.Count.{ones, trailingZeros}
 use lib.Dec.{eqb, ltb}
-use Rattle.std.proofs.shelf.Tests.{and-parts, cases-eq, eqb-true, ltb-true, ne-eqb}
+use Rattle.std.proofs.shelf.Tests.{and-parts, cases-eq, eqb-true, ltb-true}
 use Rattle.std.specs.declared.option.Option.{Option}
 use Rattle.std.specs.declared.option.Option.the-variants.{Some, None}
-use Rattle.bus.specs.Ids.{decoded}
+use Rattle.std.specs.Options.{valueOr}
+use Rattle.bus.specs.Ids.{station-bit, scanned, decoded}
 
 abbrev same : Option ℕ → Option ℕ → Bool
 same None None = true
@@ -35,44 +36,23 @@ at f (suc n) t k h =
     let both = and-parts (f n) (below f n) t in
     ⊎-elim (λ e. rw e (both .0)) (λ ne. at f n (both .1) k (omega arith)) (cases-eq k n)
 
-abbrev others-bits : ℕ → ℕ → ℕ
-others-bits own bits = bitXor bits (2 ^ own)
-
--- what the code computes
-abbrev scanned : ℕ → ℕ → Option ℕ
-scanned own bits =
-    cond (eqb (bitAnd bits (2 ^ own)) 0) None
-    (cond (eqb (ones (others-bits own bits)) 1) (Some (trailingZeros 8 (others-bits own bits))) None)
-
--- it is the definition, and a single bit has a number below 8
+-- the scan is the definition, and finds a number below 8
 abbrev agrees : ℕ → ℕ → Bool
-agrees own bits =
-    same (scanned own bits) (decoded own bits)
-    && (not (eqb (ones (others-bits own bits)) 1) || ltb (trailingZeros 8 (others-bits own bits)) 8)
+agrees own bits = same (scanned (station-bit own) bits) (decoded own bits) && ltb (valueOr (decoded own bits) 0) 8
 
 agree : below (λ own. below (agrees own) 256) 8 ≡ true
 unfolding ones trailingZeros
 agree = refl
 
 module _ (own bits : ℕ) (o : own < 8) (b : bits < 256) where
-  parts : (same (scanned own bits) (decoded own bits) ≡ true) × ((not (eqb (ones (others-bits own bits)) 1) || ltb (trailingZeros 8 (others-bits own bits)) 8) ≡ true)
-  parts = and-parts (same (scanned own bits) (decoded own bits)) _ (at (agrees own) 256 (at (λ own. below (agrees own) 256) 8 agree own o) bits b)
+  both : (same (scanned (station-bit own) bits) (decoded own bits) ≡ true) × (ltb (valueOr (decoded own bits) 0) 8 ≡ true)
+  both = and-parts (same (scanned (station-bit own) bits) (decoded own bits)) _ (at (agrees own) 256 (at (λ own. below (agrees own) 256) 8 agree own o) bits b)
 
-  pub scans : scanned own bits ≡ decoded own bits
-  scans = same-is (scanned own bits) (decoded own bits) (parts .0)
+  scans : scanned (station-bit own) bits ≡ decoded own bits
+  scans = same-is (scanned (station-bit own) bits) (decoded own bits) (both .0)
 
-  pub near : eqb (ones (others-bits own bits)) 1 ≡ true → trailingZeros 8 (others-bits own bits) < 8
-  near e = ltb-true (trailingZeros 8 (others-bits own bits)) 8 (rw e at (parts .1))
+  pub near : (n : ℕ) → decoded own bits ≡ Some n → n % 8 ≡ n
+  near n e = let h : n < 8 = ltb-true n 8 (rw e at (both .1)) in mod-eq-of-lt h
 
-  pub none-missing : bitAnd bits (2 ^ own) ≡ 0 → None ≡ decoded own bits
-  none-missing e = rw e at scans
-
-  pub none-several : eqb (ones (others-bits own bits)) 1 ≡ false → None ≡ decoded own bits
-  none-several e = by (eqb (bitAnd bits (2 ^ own)) 0) (rw e at scans)
-    where
-      by : (t : Bool) → cond t None None ≡ decoded own bits → None ≡ decoded own bits
-      by true h = h
-      by false h = h
-
-  pub some : (bitAnd bits (2 ^ own) ≡ 0 → ⊥) → eqb (ones (others-bits own bits)) 1 ≡ true → Some (trailingZeros 8 (others-bits own bits)) ≡ decoded own bits
-  some ne e = rw (ne-eqb (bitAnd bits (2 ^ own)) 0 ne, e) at scans
+  pub finds : (r : Option ℕ) (bit : ℕ) → r ≡ scanned bit bits → bit ≡ station-bit own → r ≡ decoded own bits
+  finds r bit e is = e ∙ ap (λ x. scanned x bits) is ∙ scans

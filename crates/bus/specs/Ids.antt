@@ -1,7 +1,9 @@
 -- ID bytes: a bit for each station.
-use mathlib.Core.Bool.{Bool, cond, not, _&&_}
+use mathlib.Core.Bool.{Bool, cond, not, _&&_, _||_}
 use mathlib.Core.List.{List, [], _∷_}
 use Prim.Native.Nat.{ℕ, _/_, _%_, _^_}
+use lib.Bits.{bitAnd, bitXor}
+use lib.Count.{ones, trailingZeros}
 use lib.Dec.{eqb}
 use Rattle.std.specs.declared.option.Option.{Option}
 use Rattle.std.specs.declared.option.Option.the-variants.{Some, None}
@@ -31,3 +33,8 @@ only (n ∷ m ∷ ns) = None
 -- the other station, where exactly the bits of own and of one other are set
 abbrev pub decoded : ℕ → ℕ → Option ℕ
 decoded own bits = cond (carries bits own) (only (others own bits every-station)) None
+
+-- the same by the bits of an ID byte: it has the own bit, and without it a single one is left
+abbrev pub scanned : ℕ → ℕ → Option ℕ
+scanned own-bit bits =
+    cond (eqb (bitAnd bits own-bit) 0 || not (eqb (ones (bitXor bits own-bit)) 1)) None (Some (trailingZeros 8 (bitXor bits own-bit)))

@@ -3,7 +3,7 @@
 ghost use mathlib.Core.Path.{_≡_};
 ghost use Prim.Native.Nat.{_<_, _%_};
 ghost use Rattle.std.specs.Options.{mapped};
-ghost use Rattle.bus.specs.Ids.{station-bit, decoded};
+ghost use Rattle.bus.specs.Ids.{station-bit, scanned, decoded};
 
 // An address on the cable, 0 to 7.
 #[derive(Clone, Copy)]
@@ -37,7 +37,9 @@ impl StationAddress {
     pub fn encode(self) -> IdByte
         ensures { λ r. ⌜ r .bits ≡ station-bit (self .number) ⌝ }
     {
-        IdByte { bits: 1 << self.number }
+        IdByte {
+            bits: 1 << self.number,
+        }
     }
 }
 
@@ -58,13 +60,20 @@ impl IdByte {
     pub fn decode(self, own: StationAddress) -> Option<StationAddress>
         ensures { λ r. ⌜ mapped (λ a. a .number) r ≡ decoded (own .number) (self .bits) ⌝ }
     {
-        let own_bit = own.encode().bits;
-        let others = self.bits ^ own_bit;
-        if self.bits & own_bit == 0 || !others.is_power_of_two() {
+        match self.scan(own.encode()) {
+            Some(number) => Some(StationAddress::new(number)),
+            None => None,
+        }
+    }
+
+    // The same by the bits: without the own one a single bit is left.
+    fn scan(self, own: IdByte) -> Option<u8>
+        ensures { λ r. ⌜ r ≡ scanned (own .bits) (self .bits) ⌝ }
+    {
+        let others = self.bits ^ own.bits;
+        if self.bits & own.bits == 0 || !others.is_power_of_two() {
             return None;
         }
-        Some(StationAddress {
-            number: others.trailing_zeros() as u8,
-        })
+        Some(others.trailing_zeros() as u8)
     }
 }

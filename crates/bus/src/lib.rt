@@ -4,4 +4,6 @@ pub mod parity;
 pub mod patient;
 pub mod phase;
 pub mod station;
+#[cfg(test)]
+mod tests;
 pub mod wish;

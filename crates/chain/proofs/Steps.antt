@@ -18,6 +18,12 @@ apart false m n here f p q e = omega arith
 after-apart : (m here n : ℕ) → 0 < here → here ≤ n → here ≡ after n m → ⊥
 after-apart m here n = apart (ltb n m) m n here (ltb-true n m)
 
+-- where a chain goes on, it goes upward and stays within the table
+pub led : (records n m : ℕ) → leads records n m ≡ true → (n < m) × (m ≤ records)
+led records n m t =
+    let both = and-parts (ltb n m) (leb m records) t in
+    (ltb-true n m (both .0), leb-true m records (both .1))
+
 -- the record at a place
 pub found : {R : Type 0} (rs : List R) (i : ℕ) → i < length rs → (r : R) × (r ≡ getD rs i r)
 found [] i h = let z : ⊥ = omega arith in absurd z
@@ -62,11 +68,11 @@ module _ {R : Type 0} (next : R → ℕ) where
   at-zero rs = nowhere rs 1 0 (inl (omega arith))
 
   -- where a next leads on, it is what follows
-  pub on : (rs : List R) (n m : ℕ) → leads next rs n m ≡ true → after n m ≡ m
+  pub on : (rs : List R) (n m : ℕ) → leads (length rs) n m ≡ true → after n m ≡ m
   on rs n m t = rw (and-parts (ltb n m) (leb m (length rs)) t .0)
 
   -- where it leads nowhere, no chain follows
-  pub off : (rs : List R) (n m : ℕ) → leads next rs n m ≡ false → chain-from next rs (after n m) ≡ []
+  pub off : (rs : List R) (n m : ℕ) → leads (length rs) n m ≡ false → chain-from next rs (after n m) ≡ []
   off rs n m t = by (ltb n m) refl
     where
       by : (above : Bool) → ltb n m ≡ above → chain-from next rs (cond above m 0) ≡ []

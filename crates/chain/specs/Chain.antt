@@ -27,6 +27,10 @@ gather f (l ∷ ls) = f (l .item) ++ gather f ls
 abbrev pub after : ℕ → ℕ → ℕ
 after n m = cond (ltb n m) m 0
 
+-- whether a chain goes on from the record n to m, in a table of so many records: upward, and within the table
+abbrev pub leads : ℕ → ℕ → ℕ → Bool
+leads records n m = ltb n m && leb m records
+
 module _ {R : Type 0} (next : R → ℕ) where
   -- The chain from the record n on, in a table whose first record has the number here. A next leads upward only, so
   -- one way through the table meets the whole chain.
@@ -55,14 +59,10 @@ module _ {R : Type 0} (next : R → ℕ) where
     pub within : n ≤ length rs
     pub is : r ≡ getD rs (n - 1) r
 
-  -- whether a chain goes on from the record n to m: upward, and within the table
-  abbrev pub leads : List R → ℕ → ℕ → Bool
-  leads rs n m = ltb n m && leb m (length rs)
-
   -- the rule: a record is the last of its chain where its next leads nowhere, and else its next's chain follows it
   pub data Runs (rs : List R) : ℕ → List (Link R) → Type 0 where
-    ends : (n : ℕ) (r : R) → Stands rs n r → leads rs n (next r) ≡ false → Runs rs n (link n r ∷ [])
-    goes : (n : ℕ) (r : R) (ls : List (Link R)) → Stands rs n r → leads rs n (next r) ≡ true → Runs rs (next r) ls → Runs rs n (link n r ∷ ls)
+    ends : (n : ℕ) (r : R) → Stands rs n r → leads (length rs) n (next r) ≡ false → Runs rs n (link n r ∷ [])
+    goes : (n : ℕ) (r : R) (ls : List (Link R)) → Stands rs n r → leads (length rs) n (next r) ≡ true → Runs rs (next r) ls → Runs rs n (link n r ∷ ls)
 
   -- a chain begins at record 1 and keeps the rule; an empty table has an empty chain
   pub record Rule (rs : List R) : Type 0 where

@@ -4,7 +4,7 @@ pub mod refusal;
 use refusal::ChainRefusal;
 ghost use mathlib.Core.Path.{_≡_};
 ghost use Prim.Native.Nat.{ℕ};
-ghost use Rattle.chain.specs.Chain.{verdict, Rule};
+ghost use Rattle.chain.specs.Chain.{leads as leads-on, verdict, Rule};
 
 // A record that tells which one follows it.
 pub trait Linked {
@@ -13,6 +13,14 @@ pub trait Linked {
     // The number of the record after this one, zero for none.
     fn next(&self) -> usize
         ensures { λ r. ⌜ r ≡ next (now (self .entry)) ⌝ };
+}
+
+// Whether a chain goes on from the record with this number to its next, in a table of so many records: it goes upward
+// only, and stays within the table.
+pub fn leads(records: usize, number: usize, next: usize) -> bool
+    ensures { λ r. ⌜ r ≡ leads-on records number next ⌝ }
+{
+    number < next && next <= records
 }
 
 // Counts the records of the chain that begins at record 1, or refuses with the first one whose next ends it wrongly.
@@ -37,7 +45,7 @@ fn walk<R: Linked>(records: &[R]) -> Result<usize, ChainRefusal>
         if next == 0 {
             break Ok(count);
         }
-        if next <= number || records.len() < next {
+        if !leads(records.len(), number, next) {
             break Err(ChainRefusal::WrongNext(number));
         }
         number = next;

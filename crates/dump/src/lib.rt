@@ -9,7 +9,11 @@ const PER_LINE: usize = 16;
 
 // What stands for a byte in text: itself where it can be printed, else a dot.
 fn printable(byte: u8) -> char {
-    if byte >= 0x20 && byte < 0x7f { byte as char } else { '.' }
+    if byte >= 0x20 && byte < 0x7f {
+        byte as char
+    } else {
+        '.'
+    }
 }
 
 fn line<W: fmt::Write>(f: &mut fmt::Formatter<W>, offset: usize, bytes: &[u8]) -> fmt::Result {

@@ -32,7 +32,10 @@ fn show_verdict<W: Write>(out: &mut W, rows: &[Row]) -> io::Result<()> {
         Err(refusal) => {
             let number = refusal.number();
             let ChainRefusal::WrongNext(record) = refusal;
-            writeln!(out, "chain: refused ({number}), the next of record {record} ends it wrongly")
+            writeln!(
+                out,
+                "chain: refused ({number}), the next of record {record} ends it wrongly"
+            )
         }
     }
 }
@@ -43,7 +46,10 @@ fn show_record<W: Write>(out: &mut W, number: usize, row: Row, wish: Wish) -> io
         Ok(_) => writeln!(out, "{number:>4}  {wish}"),
         Err(refusal) => {
             let why = refusal.number();
-            writeln!(out, "{number:>4}  {wish}, for the row makes no record ({why})")
+            writeln!(
+                out,
+                "{number:>4}  {wish}, for the row makes no record ({why})"
+            )
         }
     }
 }

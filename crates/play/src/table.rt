@@ -27,11 +27,17 @@ impl<'a> fmt::Display for Fault<'a> as FaultDisplay {
         match *self {
             Fault::Missing(field) => {
                 let Field { name, most } = field;
-                write!(f, "expected the {name}, a number up to {most}, and the line ends")
+                write!(
+                    f,
+                    "expected the {name}, a number up to {most}, and the line ends"
+                )
             }
             Fault::NoNumber(field, word) => {
                 let Field { name, most } = field;
-                write!(f, "expected the {name}, a number up to {most}, and found '{word}'")
+                write!(
+                    f,
+                    "expected the {name}, a number up to {most}, and found '{word}'"
+                )
             }
             Fault::Surplus(word) => write!(f, "expected the end of the line, and found '{word}'"),
         }
@@ -77,11 +83,23 @@ fn row_of(line: &str) -> Result<Option<Row>, Fault<'_>> {
     let phase = next_byte(&mut words, "phase")?;
     let byte = next_byte(&mut words, "byte")?;
     let parity = next_byte(&mut words, "parity")?;
-    let next = next_number(&mut words, Field { name: "next", most: u16::MAX })?;
+    let next = next_number(
+        &mut words,
+        Field {
+            name: "next",
+            most: u16::MAX,
+        },
+    )?;
     if let Some(word) = words.next() {
         return Err(Fault::Surplus(word));
     }
-    Ok(Some(Row { kind, phase, byte, parity, next }))
+    Ok(Some(Row {
+        kind,
+        phase,
+        byte,
+        parity,
+        next,
+    }))
 }
 
 fn without_comment(line: &str) -> &str {

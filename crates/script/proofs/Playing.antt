@@ -34,6 +34,6 @@ pub puts-up : (rows : List Row) (a : StationAddress) (new : Script) → Opened r
 puts-up rows a new o taken up s c =
     let none : up ≡ [] = none-joined new taken up s c in
     let waits : script-meaning .waiting new ≡ chain-bytes (table rows) =
-      (λ i. waiting-at (o .rows-are i) (o .place-is i)) ∙ opens (table rows) in
+    (λ i. waiting-at (o .rows-are i) (o .place-is i)) ∙ opens (table rows) in
     let all = taken-or-waiting script-meaning script-lawful new taken up s c in
     (sym all ∙ ap (λ l. script-meaning .waiting new ++ l) none ∙ append-nil (script-meaning .waiting new) ∙ waits, none)

@@ -2,18 +2,18 @@
 use mathlib.Core.Path.{_≡_, refl, sym, ap, _∙_}
 use mathlib.Core.Bool.{Bool, true, false, cond, _&&_}
 use mathlib.Core.List.{List, [], _∷_, _++_, append-nil}
-use Prim.Native.Nat.{ℕ, _-_, _<_, _≤_}
+use Prim.Native.Nat.{ℕ, _-_}
 use native.Mathlib.Omega.{arith}
-use lib.Dec.{eqb, ltb, leb}
+use lib.Dec.{eqb}
 use lib.ListN.{length, getD, drop}
 use lib.Seq.{drop-append-seam}
 use Rattle.std.proofs.shelf.Lists.{getD-default}
-use Rattle.std.proofs.shelf.Tests.{and-parts, ltb-true, leb-true}
+use Rattle.std.proofs.shelf.Tests.{and-parts}
 use Rattle.bus.specs.Wishes.{offers, is-off}
 use Rattle.bus.specs.Meaning.{Lawful, left, says-yes}
 use Rattle.bus.proofs.Clauses.{off-offers, begins}
 use Rattle.chain.specs.Chain.{gather, after, chain-from, leads, Stands}
-use Rattle.chain.proofs.Steps.{step, on, off}
+use Rattle.chain.proofs.Steps.{led, step, on, off}
 use Rattle.script.specs.declared.row.Row.{Row}
 use Rattle.script.specs.declared.script.Place.{Place}
 use Rattle.script.specs.declared.script.Place.the-variants.{At, End, Leaving}
@@ -30,16 +30,14 @@ at-record rows n r s = ap (gather row-byte) (step next-of rows n r s)
 
 -- where the chain goes, the bytes of what follows wait
 followed : (rows : List Row) (n m : ℕ) → waiting-at rows (follow rows n m) ≡ bytes-from rows (after n m)
-followed rows n m = by (leads next-of rows n m) refl
+followed rows n m = by (leads (length rows) n m) refl
   where
-    by : (t : Bool) → leads next-of rows n m ≡ t → waiting-at rows (cond t (At m (getD rows (m - 1) no-row)) End) ≡ bytes-from rows (after n m)
+    by : (t : Bool) → leads (length rows) n m ≡ t → waiting-at rows (cond t (At m (getD rows (m - 1) no-row)) End) ≡ bytes-from rows (after n m)
     by false e = sym (ap (gather row-byte) (off next-of rows n m e))
     by true e =
-        let both = and-parts (ltb n m) (leb m (length rows)) e in
-        let above : n < m = ltb-true n m (both .0) in
-        let within : m ≤ length rows = leb-true m (length rows) (both .1) in
+        let up = led (length rows) n m e in
         let r = getD rows (m - 1) no-row in
-        let stands : Stands next-of rows m r = record { counted = omega arith; within = within; is = getD-default rows (m - 1) no-row r (omega arith) } in
+        let stands : Stands next-of rows m r = record { counted = omega arith; within = up .1; is = getD-default rows (m - 1) no-row r (omega arith) } in
         sym (ap (bytes-from rows) (on next-of rows n m e) ∙ at-record rows m r stands)
 
 -- moving on leaves all but the byte that the wish shows

@@ -4,7 +4,7 @@ use mathlib.Core.Bool.{Bool, cond, _&&_}
 use mathlib.Core.List.{List, [], _∷_, _++_}
 use Prim.Native.Nat.{ℕ, _-_}
 use lib.Dec.{eqb}
-use lib.ListN.{take, getD}
+use lib.ListN.{length, take, getD}
 use Rattle.std.specs.declared.option.Option.{Option}
 use Rattle.std.specs.declared.option.Option.the-variants.{Some, None}
 use Rattle.bus.specs.declared.address.StationAddress.{StationAddress}
@@ -42,7 +42,7 @@ opening (r ∷ rs) = At 1 r
 
 -- from the record n to the record m, where the chain goes on to it, and otherwise to the end
 abbrev pub follow : List Row → ℕ → ℕ → Place
-follow rows n m = cond (leads next-of rows n m) (At m (getD rows (m - 1) no-row)) End
+follow rows n m = cond (leads (length rows) n m) (At m (getD rows (m - 1) no-row)) End
 
 -- Moving on: from a record by its next. At the end it goes, once, when it was chosen, and then is at the end again.
 abbrev pub next-place : List Row → Place → Place

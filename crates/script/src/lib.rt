@@ -3,3 +3,5 @@ pub mod record;
 pub mod refusal;
 pub mod row;
 pub mod script;
+#[cfg(test)]
+mod tests;

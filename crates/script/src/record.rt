@@ -1,10 +1,10 @@
 // Records: rows whose numbers make sense.
+use super::refusal::RecordRefusal;
+use super::row::Row;
 use bus::address::IdByte;
 use bus::parity::Parity;
 use bus::phase::Phase;
 use bus::wish::Wish;
-use super::refusal::RecordRefusal;
-use super::row::Row;
 ghost use mathlib.Core.Path.{_≡_};
 ghost use Prim.Native.Nat.{_≤_};
 ghost use Rattle.std.specs.Results.{mapped};

@@ -1,10 +1,11 @@
 // The station that plays a script.
-use bus::address::StationAddress;
-use bus::station::Station;
-use bus::wish::Wish;
 use super::record::Record;
 use super::row::Row;
 use super::row::counted;
+use bus::address::StationAddress;
+use bus::station::Station;
+use bus::wish::Wish;
+use chain::leads;
 ghost use mathlib.Core.Path.{_≡_};
 ghost use Rattle.script.specs.Records.{played};
 ghost use Rattle.script.specs.Scripts.{opening, follow, next-place, record-number, script-meaning, Opened, Puts-up};
@@ -69,7 +70,7 @@ impl<'a> Script<'a> {
     fn following(&self, number: usize, next: usize) -> Place
         ensures { λ r. ⌜ r ≡ follow (now (now (self .entry) .rows)) number next ⌝ }
     {
-        if number < next && next <= self.rows.len() {
+        if leads(self.rows.len(), number, next) {
             Place::At(next, self.rows[next - 1])
         } else {
             Place::End

@@ -1,30 +1,17 @@
-use mathlib.Core.Path.{_≡_, sym, _∙_}
+use mathlib.Core.Path.{sym, ap, _∙_}
 use native.Mathlib.Omega.{arith}
-use Prim.Native.Nat.{_<_}
-use Rattle.bus.proofs.Ids.{near, none-missing, none-several, some}
+use Rattle.std.specs.declared.option.Option.the-variants.{Some}
+use Rattle.bus.proofs.Ids.{finds, near}
 use Rattle.bus.proofs.address.IdByte.decode.Needs as need
-use Rattle.bus.proofs.address.IdByte.decode.Needs.{then-self-own-bit-eq0·by·then-self-own-bit-eq0, then-self-own-bit-eq0·by·else-self-own-bit-eq0·then-not-is-power-of-two}
 
-pub returns-then-self-own-bit-eq0 : need.returns-then-self-own-bit-eq0
-returns-then-self-own-bit-eq0 c =
+pub returns-in-Some : need.returns-in-Some
+returns-in-Some c =
     let own = c .args .own .number in
     let bits = c .args .self .bits in
-    let bound : bits < 256 = omega arith in
-    elim (c .then-self-own-bit-eq0 .came) [
-      then-self-own-bit-eq0·by·then-self-own-bit-eq0 w ↦ none-missing own bits (c .args .own .within) bound (simp (c .encode-own-bit .ensures) at (w .if-self-own-bit-eq0 .taken))
-    | then-self-own-bit-eq0·by·else-self-own-bit-eq0·then-not-is-power-of-two w ↦ none-several own bits (c .args .own .within) bound (simp (c .encode-own-bit .ensures) at (sym (w .is-power-of-two .ensures) ∙ w .if-not-is-power-of-two .taken))
-    ]
+    let found = sym (c .in-Some .is) ∙ finds own bits (c .args .own .within) (omega arith) (c .scan .result) (c .encode .result .bits) (c .scan .ensures) (c .encode .ensures) in
+    ap (λ n. Some n) (c .new .ensures ∙ near own bits (c .args .own .within) (omega arith) (c .in-Some .number) (sym found)) ∙ found
 
-pub ghost-result : need.ghost-result
-ghost-result c =
-    let own = c .args .own .number in
-    let bits = c .args .self .bits in
-    let bound : bits < 256 = omega arith in
-    (simp (c .encode-own-bit .ensures) (near own bits (c .args .own .within) bound (simp (c .encode-own-bit .ensures) at (sym (c .if-not-is-power-of-two .ensures tt)))), tt)
-
-pub returns : need.returns
-returns c =
-    let own = c .args .own .number in
-    let bits = c .args .self .bits in
-    let bound : bits < 256 = omega arith in
-    simp (c .encode-own-bit .ensures) (some own bits (c .args .own .within) bound (simp (c .encode-own-bit .ensures) at (c .if-self-own-bit-eq0 .left)) (simp (c .encode-own-bit .ensures) at (sym (c .if-not-is-power-of-two .ensures tt))))
+pub returns-in-None : need.returns-in-None
+returns-in-None c =
+    sym (c .in-None .is)
+    ∙ finds (c .args .own .number) (c .args .self .bits) (c .args .own .within) (omega arith) (c .scan .result) (c .encode .result .bits) (c .scan .ensures) (c .encode .ensures)
