@@ -1,0 +1,5 @@
+pub mod Images
+pub mod Commands
+pub mod Drives
+pub mod DriveLawful
+pub mod Services
