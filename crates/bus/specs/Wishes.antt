@@ -55,6 +55,14 @@ offers (Hold p) = []
 offers (Req p b q) = in-data-in p (b ∷ [])
 offers Go = []
 
+-- a Req in Data In
+abbrev pub shows-data : Wish → Bool
+shows-data Off = false
+shows-data (Back id q) = false
+shows-data (Hold p) = false
+shows-data (Req p b q) = eqb (phase-number p) 4
+shows-data Go = false
+
 -- a Req in an output phase
 abbrev pub takes-byte : Wish → Bool
 takes-byte Off = false

@@ -2,6 +2,7 @@
 // Both are numbers of eight bits; being two types, one never passes for the other.
 ghost use mathlib.Core.Path.{_≡_};
 ghost use Prim.Native.Nat.{_<_, _%_};
+ghost use lib.Bits.{bitOr};
 ghost use Rattle.std.specs.Options.{mapped};
 ghost use Rattle.bus.specs.Ids.{station-bit, scanned, decoded};
 
@@ -54,6 +55,15 @@ impl IdByte {
         ensures { λ r. ⌜ r ≡ self .bits ⌝ }
     {
         self.bits
+    }
+
+    // The bits of both: of a station that reselects, and of the one that it reselects.
+    pub fn join(self, other: IdByte) -> IdByte
+        ensures { λ r. ⌜ r .bits ≡ bitOr (self .bits) (other .bits) ⌝ }
+    {
+        IdByte {
+            bits: self.bits | other.bits,
+        }
     }
 
     // The other station, where exactly the bits of `own` and of one other are set.

@@ -6,7 +6,7 @@ use super::phase::Phase;
 use super::phase::PhaseDisplay;
 ghost use mathlib.Core.Path.{_≡_};
 ghost use Rattle.std.specs.Vec.{listOf};
-ghost use Rattle.bus.specs.Wishes.{wish-kind, asking, offers, takes-byte, is-off};
+ghost use Rattle.bus.specs.Wishes.{wish-kind, asking, offers, shows-data, takes-byte, is-off};
 use std::fmt;
 
 // A station's wish: what it does on the cable until it is chosen or told.
@@ -57,6 +57,16 @@ impl Wish {
         match self {
             Wish::Req(Phase::DataIn, byte, _) => Some(byte),
             _ => None,
+        }
+    }
+
+    // Whether the wish shows a Data In byte.
+    pub fn shows_data(self) -> bool
+        ensures { λ r. ⌜ r ≡ shows-data self ⌝ }
+    {
+        match self {
+            Wish::Req(phase, _, _) => phase.number() == 4,
+            _ => false,
         }
     }
 

@@ -1,0 +1,3 @@
+pub mod Breakers
+pub mod BreakerLawful
+pub mod Breaks
