@@ -1,7 +1,7 @@
 #!/usr/bin/env python3
-"""Checks and plays a script by the rules of docs/SCRIPTS.md, and prints what `play` has to print.
+"""Plays scripts and shows exchanges with a drive by the rules in docs/, and prints what `play` has to print.
 
-Written from the documents alone, to have a second opinion: peer/play.py FILE
+Written from the documents alone, to have a second opinion: peer/play.py (SCRIPT | --image IMAGE COMMAND N)...
 """
 import sys
 
@@ -62,7 +62,7 @@ def hexdump(data):
         print(f"{start:05x}  {halves[0]}  {halves[1]}  |{text}|")
 
 
-def main(path):
+def play_script(path):
     everything = table(path)
     rows = everything[:4096]
     print(f"{path}: {len(everything)} rows, of which {len(rows)} count")
@@ -83,4 +83,61 @@ def main(path):
     hexdump(data)
 
 
-main(sys.argv[1])
+MESSAGES = {0x00: "Command Complete", 0x02: "Save Data Pointer", 0x04: "Disconnect", 0x80: "Identify"}
+STATUS = {0x00: "good", 0x02: "check condition"}
+
+
+def answer(image, command):
+    """The data and the status that a drive has for a command."""
+    blocks = min(len(image) // 512, 4096)
+    if command[0] == 0x00:
+        return b"", 0x00
+    if command[0] == 0x08:
+        first = (command[1] % 32) * 65536 + command[2] * 256 + command[3]
+        count = command[4] or 256
+        if first + count <= blocks:
+            return image[512 * first:512 * (first + count)], 0x00
+    return b"", 0x02
+
+
+def message(byte):
+    print(f"Req Message In {byte:02x}h, good parity: {MESSAGES[byte]}")
+
+
+def exchange(path, command, after):
+    image = open(path, "rb").read()
+    print(f"{path}: {min(len(image) // 512, 4096)} blocks count; command {command}, a break after each {after} bytes")
+    print("Off, chosen with ATN off")
+    command = bytes.fromhex(command)
+    for byte in command:
+        print(f"Req Command, sent {byte:02x}h")
+    data, status = answer(image, command)
+    step = int(after) or max(len(data), 1)
+    for start in range(0, len(data), step):
+        if start:
+            message(0x02)
+            message(0x04)
+            print("Go")
+            print(f"Back {(1 << 2) | (1 << 7):02x}h, good parity")
+            message(0x80)
+        run = data[start:start + step]
+        print(f"Req Data In, {len(run)} bytes")
+        hexdump(run)
+    print(f"Req Status {status:02x}h, good parity: {STATUS[status]}")
+    message(0x00)
+    print("Go")
+    print("Off")
+    print(f"data: {len(data)} bytes")
+    hexdump(data)
+
+
+def main(words):
+    words = iter(words)
+    for word in words:
+        if word == "--image":
+            exchange(next(words), next(words), next(words))
+        else:
+            play_script(word)
+
+
+main(sys.argv[1:])

@@ -72,13 +72,13 @@ impl<S: Station> Breaker<S> {
         ensures { λ r. ⌜ r ≡ self .below ⌝ }
     {
         let Breaker {
-            below,
+            below: station,
             after: _,
             host: _,
             passed: _,
             stage: _,
         } = self;
-        below
+        station
     }
 
     // Whether a break is due: so many bytes went through, and the station below shows one more.

@@ -1,6 +1,6 @@
 // Why a chain is refused.
 ghost use mathlib.Core.Path.{_≡_};
-ghost use Rattle.chain.specs.Refusals.{chain-refusal};
+ghost use Rattle.chain.specs.Refusals.{chain-refusal, refused-record};
 
 #[derive(Clone, Copy)]
 pub enum ChainRefusal {
@@ -15,6 +15,15 @@ impl ChainRefusal {
     {
         match self {
             ChainRefusal::WrongNext(_) => 13,
+        }
+    }
+
+    // The record that it names.
+    pub fn record(self) -> usize
+        ensures { λ r. ⌜ r ≡ refused-record self ⌝ }
+    {
+        match self {
+            ChainRefusal::WrongNext(record) => record,
         }
     }
 }

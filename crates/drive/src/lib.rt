@@ -3,3 +3,5 @@
 pub mod command;
 pub mod drive;
 pub mod image;
+#[cfg(test)]
+mod tests;

@@ -1,102 +1,48 @@
-// Checks a script and plays it to its end: play FILE
+// Checks and plays scripts, and shows exchanges with a drive: play (SCRIPT | --image IMAGE COMMAND N)...
+mod drives;
+mod scripts;
 mod table;
 
-use bus::address::StationAddress;
-use bus::patient::attend;
-use bus::wish::Wish;
-use bus::wish::WishDisplay;
-use chain::refusal::ChainRefusal;
-use dump::Hexdump;
-use dump::HexdumpDisplay;
-use script::record::Record;
-use script::row::MOST_ROWS;
-use script::row::Row;
-use script::row::check;
-use script::row::counted;
-use script::script::Script;
-use script::script::ScriptStation;
+use drives::show_exchange;
+use scripts::show_script;
 use std::env;
+use std::env::Args;
 use std::error::AnyError;
-use std::fs;
-use std::io;
 use std::io::BufWriter;
 use std::io::Write;
-use table::rows_of;
 
-// Where the script stands on the cable; play has no other station.
-const STATION: u8 = 2;
+const USAGE: &'static str = "usage: play (SCRIPT | --image IMAGE COMMAND N)...";
 
-fn show_verdict<W: Write>(out: &mut W, rows: &[Row]) -> io::Result<()> {
-    match check(rows) {
-        Ok(records) => writeln!(out, "chain: {records} records, and it ends as it should"),
-        Err(refusal) => {
-            let number = refusal.number();
-            let ChainRefusal::WrongNext(record) = refusal;
-            writeln!(
-                out,
-                "chain: refused ({number}), the next of record {record} ends it wrongly"
-            )
-        }
-    }
-}
-
-// One record as it was played: its number, and its wish or why it makes none.
-fn show_record<W: Write>(out: &mut W, number: usize, row: Row, wish: Wish) -> io::Result<()> {
-    match Record::new(row) {
-        Ok(_) => writeln!(out, "{number:>4}  {wish}"),
-        Err(refusal) => {
-            let why = refusal.number();
-            writeln!(
-                out,
-                "{number:>4}  {wish}, for the row makes no record ({why})"
-            )
-        }
-    }
-}
-
-// Plays the script as a patient initiator does, and collects the Data In bytes that come.
-fn play_through<W: Write>(out: &mut W, rows: &[Row], bytes: &mut Vec<u8>) -> Result<(), AnyError> {
-    let mut script = Script::new(rows, StationAddress::new(STATION));
-    for _ in 0..MOST_ROWS {
-        let Some(number) = script.record_number() else {
-            break;
-        };
-        let wish = attend(&mut script, 0);
-        if let Some(row) = rows.get(number.wrapping_sub(1)) {
-            show_record(out, number, *row, wish)?;
-        }
-        if let Some(byte) = wish.data_in() {
-            bytes.push(byte)?;
-        }
-    }
-    Ok(())
-}
-
-fn play(rt: &LibcRuntime, path: &str) -> Result<(), AnyError> {
-    let heap = rt.alloc();
-    let text = fs::read_to_string(rt, path)?;
-    let rows = rows_of(heap, path, text.as_str())?;
-    let mut out = BufWriter::new(rt.stdout());
-    let all = rows.len();
-    let counting = counted(rows.as_slice()).len();
-    writeln!(out, "{path}: {all} rows, of which {counting} count")?;
-    show_verdict(&mut out, rows.as_slice())?;
-    let mut bytes = Vec::new(heap);
-    play_through(&mut out, rows.as_slice(), &mut bytes)?;
-    let sum = bytes.len();
-    writeln!(out, "put up in Data In: {sum} bytes")?;
-    write!(out, "{}", Hexdump(bytes.as_slice()))?;
-    out.flush()?;
-    Ok(())
-}
-
+// One thing to play after the other, in the order of the arguments.
 fn run(rt: &LibcRuntime) -> Result<(), AnyError> {
     let mut words = env::args(rt)?;
     let _ = words.next();
-    match (words.next(), words.next()) {
-        (Some(path), None) => play(rt, path.as_str()),
-        _ => Err("usage: play FILE".into()),
+    let mut out = BufWriter::new(rt.stdout());
+    for _ in 0..u64::MAX {
+        let Some(word) = words.next() else {
+            break;
+        };
+        if word.as_str() == "--image" {
+            let (Some(image), Some(command), Some(after)) = (
+                words.next(),
+                words.next(),
+                words.next(),
+            ) else {
+                return Err(USAGE.into());
+            };
+            show_exchange(
+                rt,
+                &mut out,
+                image.as_str(),
+                command.as_str(),
+                after.as_str(),
+            )?;
+        } else {
+            show_script(rt, &mut out, word.as_str())?;
+        }
     }
+    out.flush()?;
+    Ok(())
 }
 
 fn main(rt: LibcRuntime) -> Result<(), AnyError> {
