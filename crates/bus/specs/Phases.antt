@@ -27,6 +27,9 @@ phase-numbered n =
     (cond (eqb n 3) (Some MessageOut) (cond (eqb n 4) (Some DataIn) (cond (eqb n 5) (Some UnspecifiedIn)
     (cond (eqb n 6) (Some Status) (cond (eqb n 7) (Some MessageIn) None)))))))
 
+abbrev pub same-phase : Phase → Phase → Bool
+same-phase p q = eqb (phase-number p) (phase-number q)
+
 -- bytes travel to the initiator: I/O is on
 abbrev pub is-input : Phase → Bool
 is-input p = leb 4 (phase-number p)

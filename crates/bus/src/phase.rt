@@ -5,7 +5,7 @@ ghost use lib.Dec.{ltb};
 ghost use Rattle.std.specs.Options.{isSome};
 ghost use Rattle.std.specs.Slices.{found};
 ghost use Rattle.std.specs.declared.option.Option.the-variants.{Some};
-ghost use Rattle.bus.specs.Phases.{phase-number, phase-numbered, phase-name, is-input};
+ghost use Rattle.bus.specs.Phases.{phase-number, phase-numbered, phase-name, same-phase, is-input};
 use std::fmt;
 
 // What travels, and which way: the lines I/O, C/D and MSG as one of eight cases.
@@ -48,6 +48,12 @@ impl Phase {
             7 => Some(Phase::MessageIn),
             _ => None,
         }
+    }
+
+    pub fn is(self, other: Phase) -> bool
+        ensures { λ r. ⌜ r ≡ same-phase self other ⌝ }
+    {
+        self.number() == other.number()
     }
 
     // What the phase is called.

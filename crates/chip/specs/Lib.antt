@@ -1,0 +1,7 @@
+pub mod Places
+pub mod Views
+pub mod Model
+pub mod Outcomes
+pub mod Orders
+pub mod Reads
+pub mod Turns

@@ -1,0 +1,4 @@
+pub mod States
+pub mod Registers
+pub mod Commands
+pub mod Refusals
