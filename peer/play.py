@@ -140,4 +140,5 @@ def main(words):
             play_script(word)
 
 
-main(sys.argv[1:])
+if __name__ == "__main__":
+    main(sys.argv[1:])

@@ -100,13 +100,9 @@ impl Ncr5385e {
         ensures { λ r. ⌜ r ≡ valued value (phase-number phase) (model (now (self .entry))) ⌝ }
     {
         Answer {
-            refusal: 0,
             value,
-            lines: self.lines(),
-            cable: 0,
-            byte: 0,
             phase: phase.number(),
-            lost: 0,
+            ..self.quiet()
         }
     }
 
@@ -115,13 +111,11 @@ impl Ncr5385e {
         ensures { λ r. ⌜ r ≡ moved cable byte (phase-number phase) lost (model (now (self .entry))) ⌝ }
     {
         Answer {
-            refusal: 0,
-            value: 0,
-            lines: self.lines(),
             cable,
             byte,
             phase: phase.number(),
             lost,
+            ..self.quiet()
         }
     }
 
@@ -130,13 +124,9 @@ impl Ncr5385e {
         ensures { λ r. ⌜ r ≡ loss lost phase (model (now (self .entry))) ⌝ }
     {
         Answer {
-            refusal: 0,
-            value: 0,
-            lines: self.lines(),
-            cable: 0,
-            byte: 0,
             phase,
             lost,
+            ..self.quiet()
         }
     }
 
@@ -163,12 +153,7 @@ impl Ncr5385e {
     {
         let answer = Answer {
             refusal: refusal.number(),
-            value: 0,
-            lines: self.lines(),
-            cable: 0,
-            byte: 0,
-            phase: 0,
-            lost: 0,
+            ..self.quiet()
         };
         Response {
             reaction: Reaction::Nothing,

@@ -36,13 +36,8 @@ impl Ncr5385e {
         ensures { λ r. ⌜ outcome (model (now (self .entry))) r ≡ shows value (model (now (self .entry))) ⌝ }
     {
         let answer = Answer {
-            refusal: 0,
             value,
-            lines: self.lines(),
-            cable: 0,
-            byte: 0,
-            phase: 0,
-            lost: 0,
+            ..self.quiet()
         };
         Response {
             reaction: Reaction::Nothing,

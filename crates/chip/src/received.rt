@@ -41,16 +41,23 @@ impl Received {
         self.count += 1;
     }
 
-    // The oldest byte.
+    // Takes the oldest byte.
     pub(crate) fn take(&mut self) -> u8
         requires { ⌜ 0 < now self .count ⌝ }
         ensures value { λ r. ⌜ r ≡ getD (items (now (self .entry))) 0 0 ⌝ }
         ensures items { λ _. ⌜ items (now (self .exit)) ≡ drop 1 (items (now (self .entry))) ⌝ }
         ensures count { λ _. ⌜ now (self .exit) .count ≡ now (self .entry) .count - 1 ⌝ }
     {
-        let byte = self.bytes[0];
+        let byte = self.oldest();
         self.bytes[0] = self.bytes[1];
         self.count -= 1;
         byte
+    }
+
+    fn oldest(&self) -> u8
+        ensures { λ r. ⌜ r ≡ getD (now (self .entry) .bytes) 0 0 ⌝ }
+    {
+        let [oldest, _] = self.bytes;
+        oldest
     }
 }
