@@ -4,10 +4,14 @@ ghost use mathlib.Core.Path.{_≡_};
 ghost use mathlib.Core.Bool.{true, false};
 ghost use mathlib.Core.List.{[], _∷_, _++_};
 ghost use Prim.Native.Nat.{_<_, _≤_, _-_};
+ghost use lib.Dec.{ltb};
 ghost use lib.ListN.{drop, getD, length};
 ghost use Rattle.chip.specs.Model.{items};
 ghost use Rattle.chip.specs.Outcomes.{is-empty};
 ghost use Rattle.chip.specs.Places.{places};
+
+// How many received bytes the chip has places for.
+const PLACES: usize = 2;
 
 impl Received {
     pub(crate) fn is_empty(&self) -> bool
@@ -16,6 +20,14 @@ impl Received {
         ensures some { λ r. ⌜ (r ≡ false → 0 < now (self .entry) .count) ⌝ }
     {
         self.count == 0
+    }
+
+    // Whether there is a place for one more.
+    pub(crate) fn has_place(&self) -> bool
+        ensures value { λ r. ⌜ r ≡ ltb (length (items (now (self .entry)))) places ⌝ }
+        ensures room { λ r. ⌜ (r ≡ true → now (self .entry) .count < places) ⌝ }
+    {
+        self.count < PLACES
     }
 
     pub(crate) fn len(&self) -> u8

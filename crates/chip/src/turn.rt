@@ -39,9 +39,6 @@ const RESELECT_ENABLE: u8 = 0x02;
 
 const PARITY_ENABLE: u8 = 0x04;
 
-// How many received bytes the chip has places for.
-const PLACES: u8 = 2;
-
 impl Ncr5385e {
     pub fn turn(&mut self, wish: Wish) -> Response
         ensures { λ r. ⌜ outcome (model (now (self .exit))) r ≡ turned (model (now (self .entry))) wish ⌝ }
@@ -245,7 +242,7 @@ impl Ncr5385e {
             self.count_down();
             return self.took(byte, 1);
         }
-        if self.received.len() < PLACES {
+        if self.received.has_place() {
             self.keep(byte, parity);
             self.count_down();
             return self.took(byte, 0);

@@ -7,9 +7,9 @@ pub returns-then-is-pad : need.returns-then-is-pad
 unfolding takes
 returns-then-is-pad c = search (tests, needs)
 
-pub returns-then-len-lt-PLACES : need.returns-then-len-lt-PLACES
+pub returns-then-has-place : need.returns-then-has-place
 unfolding takes
-returns-then-len-lt-PLACES c = search (tests, needs)
+returns-then-has-place c = search (tests, needs)
 
 pub returns : need.returns
 unfolding takes
