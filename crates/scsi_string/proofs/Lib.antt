@@ -1,0 +1,4 @@
+mod Fair
+mod Registering
+mod Turning
+mod Keeping

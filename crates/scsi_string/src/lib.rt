@@ -5,9 +5,8 @@ use chip::chip::Ncr5385e;
 use registers::answer::Answer;
 use registers::answer::Reaction;
 ghost use mathlib.Core.Path.{_≡_};
-ghost use Rattle.bus.specs.Meaning.{says-yes};
-ghost use Rattle.chip.specs.Model.{model};
 ghost use Rattle.chip.specs.Outcomes.{made-new};
+ghost use Rattle.scsi_string.specs.Laws.{Laws};
 ghost use Rattle.scsi_string.specs.Strings.{values, line};
 ghost use Rattle.scsi_string.specs.Steps.{heard, chosen-step, read-step, write-step, dma-read-step, dma-write-step, tick-step, turn-step, reset-step};
 
@@ -18,8 +17,15 @@ pub struct ScsiString<S> {
 }
 
 impl<S: Station> ScsiString<S> {
-    // A new chip with this address, and any station.
+    // A new chip with this address, and any station. The laws are of every call of a string over such a station.
     pub fn new(address: StationAddress, station: S) -> Self
+        ensures value { λ r. ⌜ values r ≡ line (made-new (address .number)) station ⌝ }
+        ensures laws { λ _. ⌜ Laws (S·Station .meaning) ⌝ }
+    {
+        ScsiString::fresh(address, station)
+    }
+
+    fn fresh(address: StationAddress, station: S) -> Self
         ensures { λ r. ⌜ values r ≡ line (made-new (address .number)) station ⌝ }
     {
         ScsiString {
