@@ -11,7 +11,7 @@ ghost use Rattle.std.specs.Results.{Cases};
 #[derive(Clone, Copy)]
 struct Field {
     name: &'static str,
-    most: u16,
+    most: u32,
 }
 
 // What is wrong with a line.
@@ -45,7 +45,7 @@ impl<'a> fmt::Display for Fault<'a> as FaultDisplay {
 }
 
 // A number in decimal, or in hex after 0x; no sign.
-fn number_of(word: &str) -> Option<u16> {
+fn number_of(word: &str) -> Option<u32> {
     let (digits, radix) = match word.strip_prefix("0x") {
         Some(digits) => (digits, 16),
         None => (word, 10),
@@ -53,10 +53,10 @@ fn number_of(word: &str) -> Option<u16> {
     if digits.starts_with('+') {
         return None;
     }
-    u16::from_str_radix(digits, radix).ok()
+    u32::from_str_radix(digits, radix).ok()
 }
 
-fn next_number<'a>(words: &mut SplitWhitespace<'a>, field: Field) -> Result<u16, Fault<'a>>
+fn next_number<'a>(words: &mut SplitWhitespace<'a>, field: Field) -> Result<u32, Fault<'a>>
     ensures { λ r. ⌜ Cases r (λ n. n ≤ field .most) (λ _. Unit {0}) ⌝ }
 {
     let Some(word) = words.next() else {
@@ -87,7 +87,7 @@ fn row_of(line: &str) -> Result<Option<Row>, Fault<'_>> {
         &mut words,
         Field {
             name: "next",
-            most: u16::MAX,
+            most: u32::MAX,
         },
     )?;
     if let Some(word) = words.next() {

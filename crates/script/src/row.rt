@@ -19,7 +19,7 @@ pub struct Row {
     // 0 good, 1 bad
     pub parity: u8,
     // the number of the row that follows, rows being numbered from 1; zero ends the chain
-    pub next: u16,
+    pub next: u32,
 }
 
 pub impl Linked for Row as RowLinked {

@@ -11,7 +11,7 @@ use std::alloc::AllocError;
 use std::alloc::Global;
 use std::test::*;
 
-fn row(kind: u8, phase: u8, byte: u8, parity: u8, next: u16) -> Row {
+fn row(kind: u8, phase: u8, byte: u8, parity: u8, next: u32) -> Row {
     Row {
         kind,
         phase,
@@ -33,7 +33,7 @@ fn refusal(row: Row) -> u8 {
 fn rows_make_records() -> Result<(), Fail> {
     let cases = [
         (row(0, 0, 0, 0, 0), 0),
-        (row(4, 7, 255, 1, 65535), 0),
+        (row(4, 7, 255, 1, 4_294_967_295), 0),
         (row(5, 0, 0, 0, 0), 10),
         (row(5, 8, 0, 2, 0), 10),
         (row(255, 0, 0, 0, 0), 10),
@@ -49,7 +49,7 @@ fn rows_make_records() -> Result<(), Fail> {
     Ok(())
 }
 
-fn table(heap: Global, nexts: &[u16]) -> Result<Vec<Row>, AllocError> {
+fn table(heap: Global, nexts: &[u32]) -> Result<Vec<Row>, AllocError> {
     let mut rows = Vec::new(heap);
     for next in nexts {
         rows.push(row(0, 0, 0, 0, *next))?;
@@ -68,7 +68,7 @@ fn verdict(rows: &[Row]) -> (usize, usize) {
 #[test]
 fn chains_are_counted_or_refused(rt: LibcRuntime) -> Result<(), Fail> {
     let heap = rt.alloc();
-    let cases: [(&[u16], (usize, usize)); 10] = [
+    let cases: [(&[u32], (usize, usize)); 10] = [
         (&[], (0, 0)),
         (&[0], (1, 0)),
         (&[1], (0, 1)),
@@ -90,7 +90,7 @@ fn chains_are_counted_or_refused(rt: LibcRuntime) -> Result<(), Fail> {
 #[test]
 fn only_4096_rows_count(rt: LibcRuntime) -> Result<(), Fail> {
     let mut rows = Vec::new(rt.alloc());
-    for next in 2..4098u16 {
+    for next in 2..4098u32 {
         rows.push(row(3, 4, 0, 0, next))?;
     }
     check_eq(verdict(rows.as_slice()), (0, 4096))?;
