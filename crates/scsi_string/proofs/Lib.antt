@@ -1,4 +1,0 @@
-mod Fair
-mod Registering
-mod Turning
-mod Keeping

@@ -1,5 +1,1 @@
-pub mod Lines
 pub mod Strings
-pub mod Steps
-pub mod RefusalTable
-pub mod Laws

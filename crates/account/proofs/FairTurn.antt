@@ -27,8 +27,8 @@ use Rattle.chip.specs.Outcomes.{Outcome, gives, silent, tells, asking, raised, 
 use Rattle.chip.specs.Places.{places}
 use Rattle.chip.specs.Turns.{ack-turn, reselected, back-turn, idle-turn, arbitrating-turn, selecting-turn, held-turn, waiting-turn, asked-turn, counted-down, kept, ends, took-in, took, takes, used-up, ended-message, sends-byte, sends, move-turn, once-empty, transferring-turn, state-turn, turned}
 use Rattle.chip.specs.Views.{View, to-state, to-source, to-atn}
-use Rattle.scsi_string.specs.RefusalTable.{first, clock-table}
-use Rattle.scsi_string.proofs.Fair.{Fair, either, whether, refuses, plain, stays, hears}
+use Rattle.account.specs.RefusalTable.{first, clock-table}
+use Rattle.account.proofs.Fair.{Fair, either, whether, refuses, plain, stays, hears}
 
 module _ (v : View) where
   -- the laws for a turn that is not refused

@@ -14,15 +14,14 @@ use Rattle.registers.specs.States.{is-disabled}
 use Rattle.chip.specs.Outcomes.{Outcome, gives, silent, quiet, heard-in, heard-yes, is-pad}
 use Rattle.chip.specs.Turns.{turned}
 use Rattle.chip.specs.Views.{View}
-use Rattle.scsi_string.specs.Lines.{Line}
-use Rattle.scsi_string.specs.Strings.{line}
-use Rattle.scsi_string.specs.Steps.{Step, step, heard, joins, call-step, chosen-step, turns-to, turn-step}
-use Rattle.scsi_string.specs.RefusalTable.{first, clock-table}
-use Rattle.scsi_string.specs.Laws.{Call, step-of, refusal-of, bare, came-in, went-out, reads-data, may-lose, Keeps, Laws}
-use Rattle.scsi_string.specs.Laws.Call.{read, write, dma-read, dma-write, tick, turn, reset}
-use Rattle.scsi_string.proofs.Fair.{Fair, is-choose}
-use Rattle.scsi_string.proofs.Registering.{read-fair, write-fair, dma-read-fair, dma-write-fair, tick-fair, reset-fair}
-use Rattle.scsi_string.proofs.Turning.{turn-fair}
+use Rattle.account.specs.Lines.{Line, line}
+use Rattle.account.specs.Steps.{Step, step, heard, joins, call-step, chosen-step, turns-to, turn-step}
+use Rattle.account.specs.RefusalTable.{first, clock-table}
+use Rattle.account.specs.Laws.{Call, step-of, refusal-of, bare, came-in, went-out, reads-data, may-lose, Keeps, Laws}
+use Rattle.account.specs.Laws.Call.{read, write, dma-read, dma-write, tick, turn, reset}
+use Rattle.account.proofs.Fair.{Fair, is-choose}
+use Rattle.account.proofs.FairRegisters.{read-fair, write-fair, dma-read-fair, dma-write-fair, tick-fair, reset-fair}
+use Rattle.account.proofs.FairTurn.{turn-fair}
 
 -- the laws of a step
 pub record Kept {S : Type 0} (reading losing : Bool) (l : Line S) (n : ℕ) (s : Step S) : Type 0 where
@@ -85,7 +84,7 @@ module _ {S : Type 0} (m : Meaning S) (l : Line S) where
           hears (Choose a atn) = false
   by-turn o (Choose a atn) is f = by-choice o a atn is f
 
-  as-law : (c : Call) → Kept (reads-data c) (may-lose c (l .chip)) l (refusal-of c (l .chip)) (step-of m c l) → Keeps m c l
+  as-law : (c : Call) → Kept (reads-data c) (may-lose c (l .chip .registers .command)) l (refusal-of c (l .chip)) (step-of m c l) → Keeps m c l
   as-law c k = record { refusal = k .refusal; unchanged = k .unchanged; in-order = k .in-order }
 
   keeps : (c : Call) → Keeps m c l

@@ -12,7 +12,7 @@ use Rattle.registers.specs.declared.refusal.Refusal.the-variants.{NoRegister, R
 use Rattle.registers.specs.Refusals.{refusal-number}
 use Rattle.chip.specs.Outcomes.{Outcome, gives, silent, tells, refused, quiet, dropping-ack}
 use Rattle.chip.specs.Views.{View}
-use Rattle.scsi_string.specs.Laws.{bare, came-in, went-out}
+use Rattle.account.specs.Laws.{bare, came-in, went-out}
 
 abbrev pub is-choose : Reaction → Bool
 is-choose Nothing = false

@@ -11,9 +11,9 @@ use Rattle.registers.specs.Registers.{register-at}
 use Rattle.registers.specs.States.{is-disabled}
 use Rattle.chip.specs.Outcomes.{lines-of, quiet, is-pad}
 use Rattle.chip.specs.Views.{View}
-use Rattle.scsi_string.specs.Lines.{Line}
-use Rattle.scsi_string.specs.Steps.{Step, read-step, write-step, dma-read-step, dma-write-step, tick-step, turn-step, reset-step}
-use Rattle.scsi_string.specs.RefusalTable.{first, is-data, is-command, discards, read-table, write-table, dma-read-table, dma-write-table, clock-table}
+use Rattle.account.specs.Lines.{Line}
+use Rattle.account.specs.Steps.{Step, read-step, write-step, dma-read-step, dma-write-step, tick-step, turn-step, reset-step}
+use Rattle.account.specs.RefusalTable.{first, is-data, is-command, discards, read-table, write-table, dma-read-table, dma-write-table, clock-table}
 
 pub data Call : Type 0 where
   read : ℕ → Call
@@ -57,15 +57,15 @@ reads-data tick = false
 reads-data turn = false
 reads-data reset = false
 
--- Chip Reset, Disconnect, Chip Disable, the reset call, and a turn of Transfer Pad
-abbrev pub may-lose : Call → View → Bool
-may-lose (read a) v = false
-may-lose (write a x) v = is-command (register-at a) && discards (command-of x)
-may-lose dma-read v = false
-may-lose (dma-write x) v = false
-may-lose tick v = false
-may-lose turn v = is-pad (v .registers .command)
-may-lose reset v = true
+-- Chip Reset, Disconnect, Chip Disable, the reset call, and a turn of Transfer Pad; k is what Command held
+abbrev pub may-lose : Call → ℕ → Bool
+may-lose (read a) k = false
+may-lose (write a x) k = is-command (register-at a) && discards (command-of x)
+may-lose dma-read k = false
+may-lose (dma-write x) k = false
+may-lose tick k = false
+may-lose turn k = is-pad k
+may-lose reset k = true
 
 -- the byte that came in on the cable and was not lost
 abbrev pub came-in : Answer → List ℕ
@@ -82,7 +82,7 @@ module _ {S : Type 0} (m : Meaning S) where
   pub record Keeps (c : Call) (l : Line S) : Type 0 where
     pub refusal : step-of m c l .answer .refusal ≡ refusal-of c (l .chip)
     pub unchanged : (refusal-of c (l .chip) ≡ 0 → ⊥) → (step-of m c l .left ≡ l) × (step-of m c l .up ≡ []) × (step-of m c l .answer ≡ bare (refusal-of c (l .chip)) (l .chip))
-    pub in-order : may-lose c (l .chip) ≡ false → l .chip .received ++ came-in (step-of m c l .answer) ≡ went-out (reads-data c) (step-of m c l .answer) ++ step-of m c l .left .chip .received
+    pub in-order : may-lose c (l .chip .registers .command) ≡ false → l .chip .received ++ came-in (step-of m c l .answer) ≡ went-out (reads-data c) (step-of m c l .answer) ++ step-of m c l .left .chip .received
 
   -- every call keeps them; and while an interrupt is pending a turn does nothing
   pub record Laws : Type 0 where

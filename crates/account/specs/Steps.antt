@@ -11,8 +11,7 @@ use Rattle.chip.specs.Outcomes.{Outcome, quiet, heard-yes}
 use Rattle.chip.specs.Reads.{reads, writes, dma-reads, dma-writes, ticks}
 use Rattle.chip.specs.Turns.{turned}
 use Rattle.chip.specs.Views.{View}
-use Rattle.scsi_string.specs.Lines.{Line}
-use Rattle.scsi_string.specs.Strings.{line}
+use Rattle.account.specs.Lines.{Line, line}
 
 -- the answer, what the call leaves, and what joined the station's list in it
 pub record Step (S : Type 0) : Type 0 where

@@ -21,8 +21,8 @@ use Rattle.chip.specs.Orders.{resets, accepted, starts, started, accepts, offer
 use Rattle.chip.specs.Outcomes.{Outcome, gives, silent, refused, dropping-ack, raised, gone-idle, in-dma, wants-byte, is-empty, quiet, valued}
 use Rattle.chip.specs.Reads.{shifted, takes-data, writing, puts-data, cleared, read-register, reads, write-register, is-chip-reset, writes, dma-reads, dma-writes, runs-out, ticks}
 use Rattle.chip.specs.Views.{View, to-counter, to-atn, to-ack, to-paused, to-control, to-destination}
-use Rattle.scsi_string.specs.RefusalTable.{first, is-data, is-command, from-08h, discards, takes-command, read-rows, read-table, command-rows, write-rows, write-table, dma-read-table, dma-write-table, clock-table}
-use Rattle.scsi_string.proofs.Fair.{Fair, is-choose, either, unless, whether, refuses, plain, stays, hears, loses}
+use Rattle.account.specs.RefusalTable.{first, is-data, is-command, from-08h, discards, takes-command, read-rows, read-table, command-rows, write-rows, write-table, dma-read-table, dma-write-table, clock-table}
+use Rattle.account.proofs.Fair.{Fair, is-choose, either, unless, whether, refuses, plain, stays, hears, loses}
 
 -- the oldest byte, and the others
 split : (xs : List ℕ) → is-empty xs ≡ false → xs ≡ getD xs 0 0 ∷ drop 1 xs

@@ -1,0 +1,6 @@
+pub mod Lines
+pub mod Steps
+pub mod RefusalTable
+pub mod Laws
+pub mod Sound
+pub mod Fates
