@@ -57,7 +57,8 @@ reads-data tick = false
 reads-data turn = false
 reads-data reset = false
 
--- Chip Reset, Disconnect, Chip Disable, the reset call, and a turn of Transfer Pad; k is what Command held
+-- The calls at which bytes can be lost: the reset call, three commands (`discards`), and a turn under Transfer Pad. k is
+-- what Command held.
 abbrev pub may-lose : Call → ℕ → Bool
 may-lose (read a) k = false
 may-lose (write a x) k = is-command (register-at a) && discards (command-of x)

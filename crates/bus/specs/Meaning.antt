@@ -19,7 +19,7 @@ pub record Meaning (S : Type 0) : Type 0 where
   pub after-chosen : S → ℕ → Bool → S
 
 module _ {S : Type 0} (m : Meaning S) where
-  -- chosen, a station says yes exactly when its wish is Off and the address is its own
+  -- chosen, a station says yes where it is Off and the address is the one that it has, and nowhere else
   abbrev pub says-yes : S → ℕ → Bool
   says-yes s a = is-off (m .wants s) && eqb (m .address s) a
 
@@ -27,7 +27,7 @@ module _ {S : Type 0} (m : Meaning S) where
   abbrev pub left : S → List ℕ
   left s = drop (length (offers (m .wants s))) (m .waiting s)
 
-  -- what joined at a Told: what the list has after it beyond what it had before, less the byte that left
+  -- what joined at a Told: the end of the new list, behind all that was left of the old one
   abbrev pub joined : S → ℕ → List ℕ
   joined s b = drop (length (left s)) (m .waiting (m .after-told s b))
 

@@ -4,7 +4,7 @@ ghost use Rattle.chain.specs.Refusals.{chain-refusal, refused-record};
 
 #[derive(Clone, Copy)]
 pub enum ChainRefusal {
-    // The next of this record is not zero, and is not above the record's own number or lies beyond the table.
+    // The next of this record is not zero, and yet leads nowhere: it does not go upward, or leaves the table.
     WrongNext(usize),
 }
 

@@ -51,7 +51,7 @@ wants-byte v = is-transferring (v .state) && (not (is-input (v .latched)) && (lt
 abbrev pub dreq : View → Bool
 dreq v = in-dma v && (not (is-empty (v .received)) || wants-byte v)
 
--- bit 0 INT, 1 DREQ, 2 ATN, 3 ACK, 4 connected; a disabled chip drives none
+-- INT weighs 1, DREQ 2, ATN 4, ACK 8 and connected 16; a disabled chip drives none
 unfoldable pub lines-of : View → ℕ
 lines-of v =
     cond (is-disabled (v .state)) 0
@@ -106,7 +106,7 @@ abbrev pub dropping-ack : Bool → Reaction
 dropping-ack true = Tell 0
 dropping-ack false = Nothing
 
--- to raise a number puts it into Interrupt and zeroes Command
+-- an interrupt is raised: Interrupt has its number, and no command is under way any more
 abbrev pub raised : ℕ → View → View
 raised n v = to-interrupt n (to-command 0 v)
 
@@ -114,7 +114,7 @@ raised n v = to-interrupt n (to-command 0 v)
 abbrev pub asking : Phase → View → View
 asking p v = raised 2 (to-latched p (to-state Asked v))
 
--- going idle turns ATN, ACK and ID Valid off
+-- off the cable: idle, with ATN and ACK off, and no valid Source ID
 abbrev pub gone-idle : View → View
 gone-idle v = to-command 0 (to-atn false (to-ack false (to-source (v .registers .source % 128) (to-state Idle v))))
 

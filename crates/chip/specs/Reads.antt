@@ -19,7 +19,7 @@ use Rattle.chip.specs.Views.{View, to-control, to-destination, to-counter, to-
 use Rattle.chip.specs.Outcomes.{Outcome, gives, silent, refused, dropping-ack, raised, gone-idle, made-new, losing, quiet, valued, is-empty, in-dma, wants-byte}
 use Rattle.chip.specs.Orders.{commanded, resets}
 
--- Auxiliary Status: bit 7 Full, 6 Parity Error, 5 to 3 the latched phase, 2 Paused, 1 Counter Zero
+-- Auxiliary Status: Full weighs 128, Parity Error 64, the latched phase 8, Paused 4 and Counter Zero 2
 abbrev pub status-of : View → ℕ
 status-of v =
     cond (not (is-empty (v .received)) || isSome (v .written)) 128 0 + cond (v .flags .«parity_error») 64 0 + phase-number (v .latched) * 8

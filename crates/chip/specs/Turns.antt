@@ -125,7 +125,7 @@ sends-byte v (Some x) =
     gives (ended-message (counted-down (used-up v))) (Tell (x .byte))
     (moved 2 (x .byte) (phase-number (x .phase)) 0 (ended-message (counted-down (used-up v))))
 
--- an output byte goes out if one was written
+-- the written byte is sent, where there is one
 unfoldable pub sends : View → Outcome
 sends v = sends-byte v (v .written)
 

@@ -66,7 +66,7 @@ impl Ncr5385e {
         self.in_dma() && (!self.received.is_empty() || self.wants_byte())
     }
 
-    // The lines as an answer tells them: bit 0 INT, 1 DREQ, 2 ATN, 3 ACK, 4 connected; none of a disabled chip.
+    // The lines as an answer tells them, each with its weight; a disabled chip drives none.
     pub fn lines(&self) -> u8
         ensures { λ r. ⌜ r ≡ lines-of (model (now (self .entry))) ⌝ }
     {

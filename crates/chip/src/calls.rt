@@ -21,7 +21,7 @@ const DIAGNOSTIC: u8 = 0x80;
 const DISCONNECTED: u8 = 0x04;
 
 impl Ncr5385e {
-    // Auxiliary Status: bit 7 Full, 6 Parity Error, 5 to 3 the latched phase, 2 Paused, 1 Counter Zero.
+    // Auxiliary Status: Full, Parity Error, the latched phase in three bits, Paused, Counter Zero.
     fn status(&self) -> u8
         ensures { λ r. ⌜ r ≡ status-of (model (now (self .entry))) ⌝ }
     {

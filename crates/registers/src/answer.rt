@@ -7,13 +7,13 @@ pub struct Answer {
     pub refusal: u8,
     // what was read
     pub value: u8,
-    // bit 0 INT, 1 DREQ, 2 ATN, 3 ACK, 4 connected: as they are after the call
+    // INT (1), DREQ (2), ATN (4), ACK (8), connected (16): as they are after the call
     pub lines: u8,
     // 0 no byte moved on the cable, 1 one came in, 2 one went out
     pub cable: u8,
     // the byte that moved
     pub byte: u8,
-    // where a byte of data was read, written, moved or lost: the phase of the transfer in which it entered the chip
+    // of the data byte that the call dealt with, if any: the phase in which it came into the chip
     pub phase: u8,
     // how many bytes were lost
     pub lost: u8,
