@@ -59,8 +59,8 @@ impl<S: Station> Breaker<S> {
     // below, and between two breaks exactly so many are taken.
     pub fn new(below: S, after: u16, host: StationAddress) -> Self
         ensures made { Made below after host result }
-        ensures bytes { ChangesNothing meaning result }
-        ensures breaks { Breaks meaning result }
+        ensures bytes { ChangesNothing S.meaning result }
+        ensures breaks { Breaks S.meaning result }
     {
         Breaker::over(below, after, host)
     }
@@ -119,14 +119,14 @@ impl<S: Station> Breaker<S> {
 
     // Whether a break is due: so many bytes went through, and the station below shows one more.
     fn is_due(&self) -> bool
-        ensures { result ≡ is_due meaning self.now }
+        ensures { result ≡ is_due S.meaning self.now }
     {
         self.after > 0 && self.after <= self.passed && self.below.wish().shows_data()
     }
 
     // How far the break has come; where one is due, it begins.
     fn standing(&self) -> Stage
-        ensures { result ≡ standing meaning self.now }
+        ensures { result ≡ standing S.meaning self.now }
     {
         match self.stage {
             Stage::Through if self.is_due() => Stage::Saving,
@@ -136,7 +136,7 @@ impl<S: Station> Breaker<S> {
 
     // The station below was dealt with: a Data In byte is counted, and it is told.
     fn pass(&mut self, sent: u8)
-        ensures { self.new ≡ passed_on meaning self.old sent }
+        ensures { self.new ≡ passed_on S.meaning self.old sent }
     {
         if self.below.wish().shows_data() && self.passed < self.after {
             self.passed += 1;

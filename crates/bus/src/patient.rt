@@ -9,16 +9,16 @@ use super::wish::Wish;
 // and where it asks for a byte it is sent this one. Whatever calls follow, each Data In byte that waited or joins
 // is taken once and in order, or waits.
 pub fn attend<S: Station>(station: &mut S, sent: u8) -> Wish
-    ensures value { result ≡ meaning.wants station.old }
-    ensures after { station.new ≡ attended meaning station.old sent }
-    ensures kept { TakenOrWaiting meaning station.old }
+    ensures value { result ≡ S.meaning.wants station.old }
+    ensures after { station.new ≡ attended S.meaning station.old sent }
+    ensures kept { TakenOrWaiting S.meaning station.old }
 {
     deal(station, sent)
 }
 
 fn deal<S: Station>(station: &mut S, sent: u8) -> Wish
-    ensures value { result ≡ meaning.wants station.old }
-    ensures after { station.new ≡ attended meaning station.old sent }
+    ensures value { result ≡ S.meaning.wants station.old }
+    ensures after { station.new ≡ attended S.meaning station.old sent }
 {
     let wish = station.wish();
     if wish.is_off() {

@@ -30,10 +30,10 @@ returns c =
       store = store;
     } in
     let left : DriveParts = record { chip = c.serve-ran.result.0; progress = c.progress-progress.result; address = c.address.result; stage = c.stage.result } in
-    let kept = c.keep-drive.ensures in
-    let parted = c.into-below-drive.ensures in
+    let kept = c.keep_drive.ensures in
+    let parted = c.into_below-drive.ensures in
     let did = c.serve-ran.ensures in
-    let after : DriveString image c.keep-drive.new.state last = record {
+    let after : DriveString image c.keep_drive.new.state last = record {
       parts = left;
       numbers = ap (λ x. drive_state x.script left) kept ∙ sym kept;
       chip = refl;
@@ -42,4 +42,4 @@ returns c =
       stage = sym (c.stage.ensures ∙ ap (λ d. d.stage) parted);
       store = drive_keeps (stored image) c.args.calls.now first last _ _ _ did store;
     } in
-    drive_serves image s c.args.calls.now first c.args.answers.now c.keep-drive.new.state last _ _ here did after
+    drive_serves image s c.args.calls.now first c.args.answers.now c.keep_drive.new.state last _ _ here did after

@@ -33,12 +33,12 @@ returns c =
       rows_are = rows_are;
     } in
     let left : ScriptParts = record { chip = c.serve-ran.result.0; progress = c.progress-progress.result; address = c.address.result; place = c.place.result } in
-    let kept = c.keep-script.ensures in
-    let parted = c.into-below-script.ensures in
+    let kept = c.keep_script.ensures in
+    let parted = c.into_below-script.ensures in
     let did = c.serve-ran.ensures in
     let keeps = script_keeps (table rows) c.args.calls.now first last _ _ _ did (rows_are, subst (InTable (table rows)) (sym place) within) in
     let placed = c.place.ensures ∙ ap (λ d. d.place) parted in
-    let after : ScriptString rows c.keep-script.new.state last = record {
+    let after : ScriptString rows c.keep_script.new.state last = record {
       parts = left;
       within = subst (InTable (table rows)) (sym placed) keeps.1;
       numbers = ap (λ x. script_state x.drive left) kept ∙ sym kept;
@@ -48,4 +48,4 @@ returns c =
       place = sym placed;
       rows_are = keeps.0;
     } in
-    script_serves rows s c.args.calls.now first c.args.answers.now c.keep-script.new.state last _ _ here did after
+    script_serves rows s c.args.calls.now first c.args.answers.now c.keep_script.new.state last _ _ here did after

@@ -7,7 +7,7 @@ pub returns : goal.returns
 returns g c =
     let m = g.P.Station.meaning in
     let n = g.Q.Station.meaning in
-    let did = c.run-both.ensures in
+    let did = c.run_both.ensures in
     record {
       first = did.first;
       second = did.second;

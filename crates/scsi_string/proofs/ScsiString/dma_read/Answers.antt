@@ -3,5 +3,5 @@ use Rattle.scsi_string.proofs.ScsiString.dma_read.Goals as goal
 
 pub returns : goal.returns
 returns g c =
-    let did = c.dma-read-step.ensures in
+    let did = c.dma_read_step.ensures in
     record { answer = did.answer; after = did.after; fates = goes_on g.S.Station.meaning g.S.Station.lawful _ _ _ _ did.answer did.after }

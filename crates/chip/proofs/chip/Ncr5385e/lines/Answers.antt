@@ -2,9 +2,9 @@ use Rattle.std.proofs.Common.{rules, tests}
 use Rattle.chip.specs.Outcomes.{lines_of}
 use Rattle.chip.proofs.chip.Ncr5385e.lines.Goals as goal
 
-pub returns-then-is-disabled : goal.returns-then-is-disabled
+pub returns-then-is_disabled : goal.returns-then-is_disabled
 unfolding lines_of
-returns-then-is-disabled c = search (tests, rules)
+returns-then-is_disabled c = search (tests, rules)
 
 pub returns : goal.returns
 unfolding lines_of

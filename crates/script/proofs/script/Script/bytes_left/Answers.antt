@@ -14,4 +14,4 @@ loop-place-preserved c =
     let room : still (length rows) c.loop-place.place ≡ still (length rows) (At n r) = ap (still (length rows)) c.in-At.is in
     let on : length (waiting_at rows c.following-place.result) ≡ length (waiting_at rows (follow rows n r.next)) = ap (λ p. length (waiting_at rows p)) c.following-place.ensures in
     let less : still (length rows) c.following-place.result ≡ still (length rows) (follow rows n r.next) = ap (still (length rows)) c.following-place.ensures in
-    (omega (arith, fewer rows n r, c.bytes-of-count.ensures.bound), omega (arith, one_more rows n r, c.bytes-of-count.ensures.value))
+    (omega (arith, fewer rows n r, c.bytes_of-count.ensures.bound), omega (arith, one_more rows n r, c.bytes_of-count.ensures.value))
