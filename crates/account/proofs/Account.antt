@@ -1,5 +1,5 @@
 -- Every history keeps the law.
-use Rattle.std.proofs.Common.{◌≡◌, ℕ, ◌%◌, Bool, true, false, cond, ◌&&◌, List, [], ◌∷◌, ◌++◌, Ok, Err, Result, sym, refl, ap, ◌∙◌, subst, true≢false, append_assoc, append-nil}
+use Rattle.std.proofs.Common.{◌≡◌, ℕ, ◌%◌, Bool, true, false, cond, List, [], ◌∷◌, ◌++◌, Ok, Err, Result, sym, refl, ap, ◌∙◌, subst, true≢false, append_assoc, append-nil}
 use mathlib.Core.Bool.{false≢true}
 use Rattle.bus.specs.Meaning.{Meaning, Lawful, joined, says_yes}
 use Rattle.bus.specs.Wishes.{offers}
@@ -10,22 +10,21 @@ use Rattle.registers.specs.declared.answer.Reaction.TheVariants.{Nothing, Tell, 
 use Rattle.registers.specs.declared.state.State.{State}
 use Rattle.registers.specs.declared.state.State.TheVariants.{Idle, Arbitrating, Selecting, Waiting, Asked, Transferring, Disabled}
 use Rattle.registers.specs.States.{is_transferring}
-use Rattle.chip.specs.Outcomes.{Outcome, gives, quiet, heard_in, heard_yes, made_new}
-use Rattle.chip.specs.Turns.{turned}
+use Rattle.chip.specs.Outcomes.{gives, heard_in, heard_yes, made_new}
 use Rattle.chip.specs.Views.{View}
 use Rattle.account.specs.Laws.{Call, step_of}
 use Rattle.account.specs.Laws.Call.{read, write, dma_read, dma_write, tick, turn, reset, unknown}
 use Rattle.account.specs.Lines.{Line, line}
-use Rattle.account.specs.Steps.{Step, step, heard, joins, call_step, chosen_step, turns_to}
+use Rattle.account.specs.Steps.{Step, step, heard, joins, chosen_step, turns_to}
 use Rattle.account.specs.Entries.{Entry, entry}
-use Rattle.account.specs.Fates.{held, Share, Gone, Fates, History, EveryFate, Account, GoesOn, RunGoesOn}
+use Rattle.account.specs.Fates.{held, Share, Fates, History, EveryFate, Account, GoesOn, RunGoesOn}
 use Rattle.account.specs.Fates.Gone.{none, then}
 use Rattle.account.specs.Fates.History.{begun, called, ran, not_ran}
 use Rattle.account.specs.Runs.{call_of, walked, joining, recorded, RunSays}
 use Rattle.registers.specs.declared.call.Call.{Call as Row}
 use Rattle.registers.specs.declared.call.Ran.{Ran}
 use Rattle.registers.specs.declared.call.RunRefusal.{RunRefusal}
-use Rattle.account.specs.Sound.{Sound, SoundOf}
+use Rattle.account.specs.Sound.{SoundOf}
 use Rattle.account.proofs.Fate.{Fate, Quiet, is_choose, at_rest, nothing}
 use Rattle.account.proofs.Registering.{read_fate, write_fate, dma_read_fate, dma_write_fate, tick_fate, reset_fate}
 use Rattle.account.proofs.Turning.{turn_fate}

@@ -1,5 +1,5 @@
 -- Registers, commands, DMA, ticks and the reset keep the laws at the chip.
-use Rattle.std.proofs.Common.{◌≡◌, ℕ, ◌-◌, Bool, true, false, cond, not, ◌&&◌, eqb, ltb, List, [], ◌∷◌, ◌++◌, get_or, drop, sym, refl, ap, ◌∙◌, true≢false, append-nil}
+use Rattle.std.proofs.Common.{◌≡◌, ℕ, ◌-◌, Bool, true, false, cond, not, ◌&&◌, eqb, ltb, List, [], ◌∷◌, get_or, drop, refl, ◌∙◌, true≢false, append-nil}
 use mathlib.Core.Bool.{false≢true}
 use Rattle.bus.specs.Phases.{phase_number}
 use Rattle.registers.specs.declared.answer.Reaction.TheVariants.{Nothing}
@@ -13,12 +13,12 @@ use Rattle.registers.specs.declared.state.State.TheVariants.{Idle, Arbitrating, 
 use Rattle.registers.specs.Commands.{command_of, is_select, is_transfer}
 use Rattle.registers.specs.Registers.{register_at, is_data}
 use Rattle.registers.specs.States.{is_busy, is_connected, is_free, is_selecting, is_disabled}
-use Rattle.chip.specs.Orders.{resets, accepted, starts, started, accepts, offered, disconnects, pauses, disables, commanded}
-use Rattle.chip.specs.Outcomes.{Outcome, gives, silent, refused, dropping_ack, raised, gone_idle, in_dma, wants_byte, is_empty, quiet, valued}
-use Rattle.chip.specs.Reads.{shifted, takes_data, writing, puts_data, cleared, read_register, reads, write_register, is_chip_reset, writes, dma_reads, dma_writes, runs_out, ticks}
+use Rattle.chip.specs.Orders.{resets, accepted, starts, started, accepts, offered, commanded}
+use Rattle.chip.specs.Outcomes.{gives, silent, refused, dropping_ack, raised, gone_idle, in_dma, wants_byte, is_empty, quiet, valued}
+use Rattle.chip.specs.Reads.{shifted, takes_data, writing, puts_data, cleared, read_register, reads, write_register, is_chip_reset, writes, dma_reads, dma_writes, ticks}
 use Rattle.chip.specs.Views.{View, to_counter, to_atn, to_ack, to_paused, to_control, to_destination}
-use Rattle.account.specs.RefusalTable.{first, is_command, from_08h, discards, takes_command, read_rows, read_table, command_rows, write_rows, write_table, dma_read_table, dma_write_table, clock_table}
-use Rattle.account.proofs.Fair.{Fair, is_choose, either, unless, whether, refuses, plain, stays, hears, loses}
+use Rattle.account.specs.RefusalTable.{first, is_command, discards, takes_command, read_rows, read_table, command_rows, write_rows, write_table, dma_read_table, dma_write_table, clock_table}
+use Rattle.account.proofs.Fair.{Fair, either, unless, whether, refuses, plain, stays, hears, loses}
 
 -- the oldest byte, and the others
 split : (xs : List ℕ) → is_empty xs ≡ false → xs ≡ get_or xs 0 0 ∷ drop 1 xs

@@ -1,5 +1,5 @@
 -- A turn keeps the laws at the chip.
-use Rattle.std.proofs.Common.{◌≡◌, ℕ, ◌+◌, Bool, true, false, cond, not, ◌&&◌, ◌||◌, eqb, ltb, List, [], ◌∷◌, ◌++◌, length, Some, None, Option, sym, refl, ap, ◌∙◌, true≢false, append-nil}
+use Rattle.std.proofs.Common.{◌≡◌, ℕ, ◌+◌, Bool, true, false, ◌&&◌, eqb, ltb, [], ◌∷◌, ◌++◌, length, Some, None, Option, sym, refl, ◌∙◌, true≢false, append-nil}
 use mathlib.Core.Bool.{false≢true}
 use lib.Bits.{bit_and}
 use Rattle.bus.specs.declared.address.IdByte.{IdByte}
@@ -11,15 +11,15 @@ use Rattle.bus.specs.declared.wish.Wish.{Wish}
 use Rattle.bus.specs.declared.wish.Wish.TheVariants.{Off, Back, Hold, Req, Go}
 use Rattle.bus.specs.Ids.{decoded}
 use Rattle.bus.specs.Phases.{same_phase, is_input}
-use Rattle.registers.specs.declared.answer.Reaction.TheVariants.{Nothing, Tell, Choose}
+use Rattle.registers.specs.declared.answer.Reaction.TheVariants.{Choose}
 use Rattle.registers.specs.declared.refusal.Refusal.TheVariants.{ChipDisabled}
 use Rattle.registers.specs.declared.state.State.{State}
 use Rattle.registers.specs.declared.state.State.TheVariants.{Idle, Arbitrating, Selecting, Waiting, Asked, Transferring, Disabled}
 use Rattle.registers.specs.States.{is_transferring, is_disabled}
 use Rattle.chip.specs.declared.chip.Written.{Written}
-use Rattle.chip.specs.Outcomes.{Outcome, gives, silent, tells, asking, raised, gone_idle, completed, let_go, is_empty, is_pad, left}
+use Rattle.chip.specs.Outcomes.{Outcome, silent, asking, raised, gone_idle, completed, let_go, is_empty, is_pad, left}
 use Rattle.chip.specs.Places.{places}
-use Rattle.chip.specs.Turns.{ack_turn, reselected, back_turn, idle_turn, arbitrating_turn, selecting_turn, held_turn, waiting_turn, asked_turn, counted_down, kept, ends, took_in, took, takes, used_up, ended_message, sends_byte, sends, move_turn, once_empty, transferring_turn, state_turn, turned}
+use Rattle.chip.specs.Turns.{ack_turn, reselected, back_turn, idle_turn, arbitrating_turn, held_turn, waiting_turn, asked_turn, counted_down, kept, ends, took_in, takes, sends_byte, sends, once_empty, transferring_turn, state_turn, turned}
 use Rattle.chip.specs.Views.{View, to_state, to_source, to_atn}
 use Rattle.account.specs.RefusalTable.{first, clock_table}
 use Rattle.account.proofs.Fair.{Fair, either, whether, refuses, plain, stays, hears}

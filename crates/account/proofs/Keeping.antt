@@ -1,5 +1,5 @@
 -- Every call of a string keeps the laws.
-use Rattle.std.proofs.Common.{◌≡◌, ℕ, ◌%◌, Bool, true, false, cond, ◌&&◌, eqb, List, [], ◌∷◌, ◌++◌, sym, refl, ap, ◌∙◌, true≢false, append-nil}
+use Rattle.std.proofs.Common.{◌≡◌, ℕ, ◌%◌, Bool, true, false, cond, [], ◌++◌, sym, refl, ap, ◌∙◌, append-nil}
 use mathlib.Core.Bool.{false≢true}
 use Rattle.std.proofs.lemmas.Bool.{ne_eqb}
 use Rattle.bus.specs.Meaning.{Meaning, says_yes}
@@ -8,12 +8,11 @@ use Rattle.registers.specs.declared.answer.Reaction.TheVariants.{Nothing, Tell, 
 use Rattle.registers.specs.declared.state.State.{State}
 use Rattle.registers.specs.declared.state.State.TheVariants.{Idle, Arbitrating, Selecting, Waiting, Asked, Transferring, Disabled}
 use Rattle.registers.specs.States.{is_disabled}
-use Rattle.chip.specs.Outcomes.{Outcome, gives, silent, quiet, heard_in, heard_yes, is_pad}
+use Rattle.chip.specs.Outcomes.{Outcome, silent, quiet, heard_in, heard_yes}
 use Rattle.chip.specs.Turns.{turned}
 use Rattle.chip.specs.Views.{View}
 use Rattle.account.specs.Lines.{Line, line}
-use Rattle.account.specs.Steps.{Step, step, heard, joins, call_step, chosen_step, turns_to, turn_step}
-use Rattle.account.specs.RefusalTable.{first, clock_table}
+use Rattle.account.specs.Steps.{Step, step, heard, joins, call_step, chosen_step, turns_to}
 use Rattle.account.specs.Laws.{Call, step_of, refusal_of, bare, came_in, went_out, reads_data, may_lose, Keeps, Laws}
 use Rattle.account.specs.Laws.Call.{read, write, dma_read, dma_write, tick, turn, reset, unknown}
 use Rattle.account.proofs.Fair.{Fair, is_choose}

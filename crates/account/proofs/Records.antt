@@ -1,11 +1,10 @@
 -- Where no byte waits, is held or was lost, the bytes read are those put up.
-use Rattle.std.proofs.Common.{◌≡◌, ℕ, ◌+◌, ◌<◌, Bool, true, false, cond, ◌&&◌, eqb, ltb, List, [], ◌∷◌, ◌++◌, length, sym, refl, ap, ◌∙◌, true≢false, append_assoc, append-nil, arith}
-use mathlib.Core.Bool.{false≢true}
+use Rattle.std.proofs.Common.{◌≡◌, ℕ, ◌+◌, ◌<◌, Bool, true, false, cond, eqb, List, [], ◌∷◌, ◌++◌, sym, refl, ap, ◌∙◌, append_assoc, append-nil, arith}
 use Rattle.std.proofs.lemmas.Bool.{and_parts, ltb-true}
 use Rattle.bus.specs.Meaning.{Meaning, Lawful}
 use Rattle.account.specs.Lines.{Line}
 use Rattle.account.specs.Entries.{Entry, tells_read, tells_lost}
-use Rattle.account.specs.Fates.{Share, Gone, Fates, held, record_of, lost_of, Complete, RecordsTell}
+use Rattle.account.specs.Fates.{Share, Gone, Fates, record_of, lost_of, Complete, RecordsTell}
 use Rattle.account.specs.Fates.Gone.{none, then}
 use Rattle.account.proofs.Account.{every_fate}
 

@@ -1,5 +1,5 @@
 -- Reads, writes, commands, ticks and the reset account for their bytes.
-use Rattle.std.proofs.Common.{◌≡◌, ℕ, ◌<◌, ◌≤◌, Bool, true, false, cond, not, ◌&&◌, ◌||◌, eqb, ltb, leb, List, [], ◌∷◌, ◌++◌, length, get_or, drop, is_some, Some, None, Option, sym, refl, ap, ◌∙◌, subst, true≢false, append-nil, arith}
+use Rattle.std.proofs.Common.{◌≡◌, ℕ, ◌≤◌, Bool, true, false, cond, not, ◌&&◌, eqb, ltb, List, [], ◌∷◌, ◌++◌, length, get_or, drop, is_some, Some, None, Option, sym, refl, ap, ◌∙◌, subst, true≢false, append-nil, arith}
 use mathlib.Core.Bool.{false≢true}
 use lib.Bits.{bit_and}
 use Rattle.std.proofs.lemmas.Bool.{and_parts, not-true, eqb-true}
@@ -15,24 +15,22 @@ use Rattle.chip.specs.declared.chip.Written.{Written}
 use Rattle.registers.specs.declared.answer.Reaction.TheVariants.{Nothing}
 use Rattle.registers.specs.declared.refusal.Refusal.{Refusal}
 use Rattle.registers.specs.declared.refusal.Refusal.TheVariants.{NoRegister, ReadOnly, ChipDisabled, InterruptPending, Busy, NoByte, Dma}
-use Rattle.registers.specs.declared.answer.Answer.{Answer}
 use Rattle.account.proofs.Shares.{other_share, idle_share, lost_share, read_share}
-use Rattle.account.proofs.Phases.{in_data_in_none, in_data_in_append, out_code, empty_held}
-use Rattle.account.proofs.Fate.{Fate, Quiet, taken, none_taken, none_chosen, at_rest, either, nothing, silently, aloud, stays, refuses, hears}
+use Rattle.account.proofs.Phases.{in_data_in_none, in_data_in_append, out_code}
+use Rattle.account.proofs.Fate.{Fate, Quiet, none_taken, none_chosen, at_rest, either, nothing, silently, stays, refuses, hears}
 use Rattle.bus.specs.Phases.{phase_number, is_input, in_data_in}
-use Rattle.bus.specs.Wishes.{offers}
-use Rattle.chip.specs.Orders.{resets, accepted, starts, begins, started, accepts, offered, shut_down, commanded}
-use Rattle.chip.specs.Outcomes.{Outcome, gives, silent, tells, refused, dropping_ack, raised, gone_idle, emptied, made_new, held_count, held_phase, written_phase, losing, quiet, valued, loss, is_empty, is_pad, in_dma, wants_byte}
+use Rattle.chip.specs.Orders.{resets, started, accepts, offered, shut_down, commanded}
+use Rattle.chip.specs.Outcomes.{Outcome, gives, silent, refused, dropping_ack, raised, gone_idle, emptied, made_new, held_count, held_phase, written_phase, losing, quiet, valued, loss, is_empty, in_dma, wants_byte}
 use Rattle.chip.specs.Places.{places}
-use Rattle.chip.specs.Reads.{shows, shifted, takes_data, puts_data, cleared, read_register, reads, unless_busy, write_register, is_chip_reset, writes, by_dma, dma_reads, dma_writes, runs_out, ticks}
-use Rattle.chip.specs.Views.{View, to_state, to_single, to_command, to_control, to_destination, to_counter, to_interrupt, to_paused, to_atn, to_ack, to_received, to_written}
+use Rattle.chip.specs.Reads.{shows, takes_data, puts_data, cleared, read_register, reads, unless_busy, write_register, is_chip_reset, writes, by_dma, dma_reads, dma_writes, ticks}
+use Rattle.chip.specs.Views.{View, to_control, to_destination, to_counter, to_paused, to_atn, to_ack, to_received}
 use Rattle.account.specs.Entries.{entry}
 use Rattle.account.specs.Fates.{Share, held}
-use Rattle.account.specs.Sound.{Sound, SoundOf, Outward}
+use Rattle.account.specs.Sound.{SoundOf, Outward}
 use Rattle.registers.specs.Commands.{command_of, is_select, is_transfer}
 use Rattle.registers.specs.Registers.{register_at, is_data}
 use Rattle.registers.specs.States.{is_transferring, is_busy, is_connected, is_free, is_selecting, is_disabled}
-use Rattle.account.specs.Laws.Call.{read, write, dma_read, dma_write, tick, turn, reset}
+use Rattle.account.specs.Laws.Call.{read, write, dma_read, dma_write, tick, reset}
 use Rattle.account.specs.RefusalTable.{is_command, discards}
 use Rattle.account.specs.Laws.{Call, reads_data, may_lose}
 

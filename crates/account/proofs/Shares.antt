@@ -1,12 +1,12 @@
 -- What an answer accounts for, by the form of the answer.
-use Rattle.std.proofs.Common.{◌≡◌, ℕ, ◌<◌, ◌≤◌, Bool, true, false, ◌&&◌, eqb, ltb, List, [], ◌∷◌, ◌++◌, length, sym, refl, ap, ◌∙◌, true≢false, arith}
+use Rattle.std.proofs.Common.{◌≡◌, ℕ, true, false, ◌&&◌, eqb, ltb, List, [], ◌∷◌, length, sym, refl, ap, ◌∙◌, true≢false, arith}
 use mathlib.Core.Bool.{false≢true}
-use Rattle.std.proofs.lemmas.Bool.{and_left, and_right, and_parts, and_cases, lt-ltb}
+use Rattle.std.proofs.lemmas.Bool.{and_left, and_right, lt-ltb}
 use Rattle.bus.specs.declared.phase.Phase.{Phase}
 use Rattle.bus.specs.declared.phase.Phase.TheVariants.{DataOut, UnspecifiedOut, Command, MessageOut, DataIn, UnspecifiedIn, Status, MessageIn}
 use Rattle.registers.specs.declared.answer.Answer.{Answer}
 use Rattle.bus.specs.Phases.{phase_number, in_data_in}
-use Rattle.chip.specs.Outcomes.{valued, moved, loss}
+use Rattle.chip.specs.Outcomes.{valued}
 use Rattle.chip.specs.Views.{View}
 use Rattle.account.specs.Entries.{entry, tells_read, tells_lost}
 use Rattle.account.specs.Fates.{Share}

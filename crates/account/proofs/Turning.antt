@@ -1,8 +1,8 @@
 -- A turn accounts for its bytes.
-use Rattle.std.proofs.Common.{◌≡◌, ℕ, ◌<◌, ◌≤◌, Bool, true, false, cond, not, ◌&&◌, ◌||◌, eqb, ltb, List, [], ◌∷◌, ◌++◌, length, Some, None, Option, sym, refl, ap, ◌∙◌, true≢false, append-nil, arith, length-append}
+use Rattle.std.proofs.Common.{◌≡◌, ℕ, ◌<◌, Bool, true, false, cond, ◌&&◌, eqb, ltb, [], ◌∷◌, ◌++◌, length, Some, None, Option, sym, refl, ap, ◌∙◌, true≢false, append-nil, arith, length-append}
 use mathlib.Core.Bool.{false≢true}
 use lib.Bits.{bit_and}
-use Rattle.std.proofs.lemmas.Bool.{and_parts, ltb-true, eqb-true}
+use Rattle.std.proofs.lemmas.Bool.{and_parts, ltb-true}
 use Rattle.bus.specs.declared.phase.Phase.{Phase}
 use Rattle.bus.specs.declared.phase.Phase.TheVariants.{MessageIn}
 use Rattle.bus.specs.declared.address.IdByte.{IdByte}
@@ -18,14 +18,12 @@ use Rattle.account.proofs.Phases.{same_is, in_data_in_append, out_none, empty_he
 use Rattle.account.proofs.Fate.{Fate, Quiet, at_rest, either, nothing, silently, aloud, stays, refuses, hears}
 use Rattle.bus.specs.Ids.{decoded}
 use Rattle.bus.specs.Phases.{phase_number, same_phase, is_input, in_data_in}
-use Rattle.bus.specs.Wishes.{offers}
-use Rattle.chip.specs.Outcomes.{asking, left, Outcome, gives, silent, raised, gone_idle, completed, let_go, is_pad, is_empty, moved}
+use Rattle.chip.specs.Outcomes.{asking, left, Outcome, silent, completed, let_go, is_pad, is_empty}
 use Rattle.chip.specs.Places.{places}
-use Rattle.chip.specs.Turns.{reselected, back_turn, idle_turn, arbitrating_turn, selecting_turn, held_turn, waiting_turn, asked_turn, counted_down, kept, ends, took_in, took, takes, used_up, ended_message, sends_byte, sends, move_turn, once_empty, transferring_turn, state_turn, ack_turn, turned}
-use Rattle.chip.specs.Views.{View, to_state, to_source, to_atn, to_ack, to_written}
-use Rattle.account.specs.Entries.{entry}
-use Rattle.account.specs.Fates.{Share, held}
-use Rattle.account.specs.Sound.{Sound, SoundOf, Outward}
+use Rattle.chip.specs.Turns.{reselected, back_turn, idle_turn, arbitrating_turn, selecting_turn, held_turn, waiting_turn, asked_turn, counted_down, kept, ends, took_in, takes, used_up, ended_message, sends_byte, sends, once_empty, transferring_turn, state_turn, ack_turn, turned}
+use Rattle.chip.specs.Views.{View, to_ack}
+use Rattle.account.specs.Fates.{held}
+use Rattle.account.specs.Sound.{SoundOf, Outward}
 use Rattle.registers.specs.States.{is_transferring, is_disabled}
 use Rattle.registers.specs.declared.refusal.Refusal.TheVariants.{ChipDisabled}
 use Rattle.account.specs.Laws.Call.{turn}

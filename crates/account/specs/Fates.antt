@@ -1,5 +1,5 @@
 -- What becomes of the Data In bytes that a station puts up.
-use Rattle.std.specs.Prelude.{◌≡◌, ℕ, ◌+◌, Bool, true, false, cond, ◌&&◌, eqb, ltb, List, [], ◌∷◌, ◌++◌, length, Ok, Err, Result}
+use Rattle.std.specs.Prelude.{◌≡◌, ℕ, ◌+◌, true, false, cond, List, [], ◌∷◌, ◌++◌, length, Ok, Err, Result}
 use Rattle.bus.specs.Meaning.{Meaning}
 use Rattle.bus.specs.Phases.{in_data_in}
 use Rattle.registers.specs.declared.answer.Answer.{Answer}

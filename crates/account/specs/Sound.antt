@@ -1,5 +1,5 @@
 -- What a chip keeps true of itself over any history, and the law of bytes rests on.
-use Rattle.std.specs.Prelude.{◌≡◌, ℕ, ◌≤◌, Bool, true, false, List, [], length, Some, None, Option}
+use Rattle.std.specs.Prelude.{◌≡◌, ℕ, ◌≤◌, true, false, List, [], length, Some, None, Option}
 use Rattle.bus.specs.declared.phase.Phase.{Phase}
 use Rattle.bus.specs.Phases.{is_input}
 use Rattle.registers.specs.declared.state.State.{State}

@@ -1,18 +1,18 @@
 -- A breaker breaks after each so many bytes.
 use Rattle.std.proofs.Common.{◌≡◌, ℕ, ◌+◌, ◌*◌, ◌<◌, ◌≤◌, Bool, true, false, cond, ◌&&◌, eqb, ltb, leb, List, [], ◌∷◌, ◌++◌, length, sym, refl, ap, ◌∙◌, subst, add-zero, add-mul, one-mul, zero-add, zero-mul, arith, length-append}
-use Rattle.std.proofs.lemmas.Bool.{and_parts, ltb-true, ltb-false, lt-ltb, leb-true, leb-false, le-leb}
+use Rattle.std.proofs.lemmas.Bool.{and_parts, lt-ltb, leb-true, leb-false}
 use mathlib.Core.Bool.{and-true}
 use Rattle.bus.specs.declared.wish.Wish.{Wish}
 use Rattle.bus.specs.declared.wish.Wish.TheVariants.{Off, Back, Hold, Req, Go}
 use Rattle.bus.specs.Phases.{phase_number}
 use Rattle.bus.specs.Wishes.{offers, shows_data}
-use Rattle.bus.specs.Meaning.{Meaning, Lawful}
+use Rattle.bus.specs.Meaning.{Meaning}
 use Rattle.bus.specs.Courses.{Course}
 use Rattle.bus.specs.Courses.Course.{begun as nothing, told, chosen}
 use Rattle.breaker.specs.declared.Stage.{Stage}
 use Rattle.breaker.specs.declared.Stage.TheVariants.{Through, Saving, Disconnecting, Leaving, Returning, Identifying}
 use Rattle.breaker.specs.declared.Breaker.{Breaker}
-use Rattle.breaker.specs.Breakers.{begun, is_through, stage_wish, stage_after, passed_after, is_due, standing, breaker_meaning}
+use Rattle.breaker.specs.Breakers.{begun, is_through, stage_wish, stage_after, passed_after, standing, breaker_meaning}
 use Rattle.breaker.specs.Breaks.{ends_break, breaks_in, Spaced, Breaks}
 
 -- how many bytes a wish shows

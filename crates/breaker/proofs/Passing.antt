@@ -2,7 +2,7 @@
 use Rattle.std.proofs.Common.{◌≡◌, ℕ, Bool, true, false, cond, List, [], ◌++◌, length, drop, sym, refl, ap, ◌∙◌, subst, append-nil}
 use lib.Seq.{drop-length}
 use Rattle.bus.specs.Wishes.{offers}
-use Rattle.bus.specs.Meaning.{Meaning, Lawful, left, joined}
+use Rattle.bus.specs.Meaning.{Meaning, Lawful, joined}
 use Rattle.bus.specs.Courses.{Course}
 use Rattle.bus.specs.Courses.Course.{begun, told, chosen}
 use Rattle.breaker.specs.declared.Breaker.{Breaker}

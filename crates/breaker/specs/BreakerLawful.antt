@@ -1,5 +1,5 @@
 -- Proofs: a breaker keeps the clauses where the station below it does.
-use Rattle.std.specs.Prelude.{◌≡◌, ℕ, Bool, true, false, cond, ◌&&◌, List, [], ◌∷◌, ◌++◌, length, drop, ◌==◌, refl}
+use Rattle.std.specs.Prelude.{◌≡◌, ℕ, Bool, true, false, cond, ◌&&◌, [], ◌++◌, length, drop, ◌==◌, refl}
 use Rattle.std.proofs.Common.{sym, ap, ◌∙◌, append-nil}
 use Rattle.std.proofs.lemmas.Bool.{and_parts}
 use Rattle.bus.specs.declared.wish.Wish.{Wish}
@@ -10,7 +10,7 @@ use Rattle.bus.proofs.Clauses.{begins}
 use Rattle.breaker.specs.declared.Stage.{Stage}
 use Rattle.breaker.specs.declared.Stage.TheVariants.{Through, Saving, Disconnecting, Leaving, Returning, Identifying}
 use Rattle.breaker.specs.declared.Breaker.{Breaker}
-use Rattle.breaker.specs.Breakers.{begun, is_through, stage_wish, stage_after, passed_after, is_due, standing, breaker_meaning}
+use Rattle.breaker.specs.Breakers.{is_through, stage_wish, stage_after, passed_after, standing, breaker_meaning}
 
 -- a station that shows a byte is not off
 data_off : (w : Wish) → shows_data w ≡ true → is_off w ≡ false

@@ -1,5 +1,5 @@
 -- What a breaker does to the bytes of the station below it: nothing, but that it breaks after each so many.
-use Rattle.std.specs.Prelude.{◌≡◌, ℕ, suc, ◌+◌, ◌*◌, ◌<◌, ◌≤◌, Bool, true, false, cond, List, length}
+use Rattle.std.specs.Prelude.{◌≡◌, ℕ, ◌+◌, ◌*◌, ◌<◌, ◌≤◌, Bool, true, false, cond, List, length}
 use Rattle.bus.specs.Meaning.{Meaning}
 use Rattle.bus.specs.Courses.{Course}
 use Rattle.bus.specs.Courses.Course.{begun, told, chosen}

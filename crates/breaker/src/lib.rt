@@ -1,4 +1,6 @@
 // The breaker: a fault in front of any station. It lets go of the cable in mid-record, and comes back.
+#![tactic(auto)]
+
 ghost use Rattle.std.specs.Prelude.{◌≡◌};
 ghost use Rattle.breaker.specs.Breakers.{is_due, standing, passed_on, breaker_meaning, progress_of, Made};
 ghost use Rattle.breaker.specs.Breaks.{ChangesNothing, Breaks};

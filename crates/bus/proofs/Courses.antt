@@ -1,8 +1,8 @@
 -- Over any course of a lawful station, each byte put up was taken or waits.
-use Rattle.std.proofs.Common.{◌≡◌, ℕ, Bool, true, false, List, [], ◌++◌, sym, refl, ap, ◌∙◌, append_assoc, append-nil}
+use Rattle.std.proofs.Common.{◌≡◌, ℕ, Bool, true, false, ◌++◌, sym, refl, ap, ◌∙◌, append_assoc, append-nil}
 use Rattle.bus.specs.Wishes.{offers}
 use Rattle.bus.specs.Meaning.{Meaning, Lawful, left, joined, says_yes}
-use Rattle.bus.specs.Courses.{Course, TakenOrWaiting}
+use Rattle.bus.specs.Courses.{TakenOrWaiting}
 use Rattle.bus.specs.Courses.Course.{begun, told, chosen}
 
 module _ {S : Type 0} (m : Meaning S) (lawful : Lawful m) where

@@ -1,5 +1,5 @@
 -- Decoding an ID byte by its bits gives what the definition says: one test, computed at each address and each byte.
-use Rattle.std.proofs.Common.{◌≡◌, ℕ, zero, suc, ◌%◌, ◌<◌, Bool, true, false, ◌&&◌, eqb, ltb, ◌⊎◌, Some, None, Option, unwrap_or, sym, refl, ap, ◌∙◌, inl, inr, ⊎_elim, mod-eq_of_lt, arith}
+use Rattle.std.proofs.Common.{◌≡◌, ℕ, zero, suc, ◌%◌, ◌<◌, Bool, true, false, ◌&&◌, eqb, ltb, Some, None, Option, unwrap_or, refl, ap, ◌∙◌, ⊎_elim, mod-eq_of_lt, arith}
 use lib.Count.{ones, count_trailing_zeros}
 use Rattle.std.proofs.lemmas.Bool.{and_parts, cases_eq, eqb-true, ltb-true}
 use Rattle.bus.specs.Ids.{station_bit, scanned, decoded}

@@ -1,6 +1,5 @@
 -- What a station wants of the cable: the number of each case and the numbers that it carries.
 use Rattle.std.specs.Prelude.{ℕ, Bool, false, cond, not, List, [], ◌∷◌, ◌==◌}
-use Rattle.bus.specs.declared.address.IdByte.{IdByte}
 use Rattle.bus.specs.declared.phase.Phase.{Phase}
 use Rattle.bus.specs.declared.parity.Parity.{Parity}
 use Rattle.bus.specs.declared.parity.Parity.TheVariants.{Good}

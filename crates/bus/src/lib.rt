@@ -1,4 +1,6 @@
 // What travels on the cable, and what every station on it means.
+#![tactic(auto)]
+
 pub mod address;
 pub mod parity;
 pub mod patient;

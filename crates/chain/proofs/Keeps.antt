@@ -2,7 +2,7 @@
 use Rattle.std.proofs.Common.{◌≡◌, ℕ, zero, suc, ◌+◌, ◌-◌, ◌<◌, ◌≤◌, Bool, true, false, List, [], ◌∷◌, length, get_or, Ok, Err, sym, refl, ap, ◌∙◌, add-one, arith}
 use Rattle.std.proofs.lemmas.Bool.{ne_eqb, le-ltb}
 use Rattle.chain.specs.declared.refusal.ChainRefusal.TheVariants.{WrongNext}
-use Rattle.chain.specs.Chain.{Link, link, after, chain_from, judged, verdict, Stands, leads, Runs, Rule}
+use Rattle.chain.specs.Chain.{link, after, chain_from, judged, verdict, Stands, leads, Runs, Rule}
 use Rattle.chain.specs.Chain.Runs.{ends, goes}
 use Rattle.chain.proofs.Steps.{led, found, step, on, off}
 

@@ -1,7 +1,7 @@
 -- One step along a chain.
-use Rattle.std.proofs.Common.{◌≡◌, ℕ, zero, suc, ◌+◌, ◌-◌, ◌<◌, ◌≤◌, Bool, true, false, cond, ◌&&◌, eqb, ltb, leb, ◌⊎◌, List, [], ◌∷◌, length, get_or, sym, refl, ap, ◌∙◌, inl, inr, ⊎_elim, arith}
-use Rattle.std.proofs.lemmas.Bool.{eqb-true, eqb-false, ne_eqb, ltb-true, lt-ltb, le-ltb, leb-true, leb-false, and_cases, and_parts}
-use Rattle.chain.specs.Chain.{Link, link, after, chain_in, chain_from, Stands, leads}
+use Rattle.std.proofs.Common.{◌≡◌, ℕ, zero, suc, ◌+◌, ◌-◌, ◌<◌, ◌≤◌, Bool, true, false, cond, eqb, ltb, leb, ◌⊎◌, List, [], ◌∷◌, length, get_or, refl, ◌∙◌, inl, inr, arith}
+use Rattle.std.proofs.lemmas.Bool.{eqb-true, eqb-false, ne_eqb, ltb-true, leb-true, leb-false, and_parts}
+use Rattle.chain.specs.Chain.{link, after, chain_in, chain_from, Stands, leads}
 
 apart : (t : Bool) (m n here : ℕ) → (t ≡ true → n < m) → 0 < here → here ≤ n → here ≡ cond t m 0 → ⊥
 apart true m n here f p q e = let l : n < m = f refl in omega arith

@@ -1,4 +1,6 @@
 // Chains of records, numbered from 1, each of which tells the number of the next.
+#![tactic(auto)]
+
 pub mod refusal;
 
 ghost use Rattle.std.specs.Prelude.{◌≡◌, ℕ};

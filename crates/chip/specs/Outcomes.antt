@@ -6,7 +6,7 @@ use Rattle.bus.specs.Phases.{phase_number, is_input}
 use Rattle.registers.specs.declared.answer.Answer.{Answer}
 use Rattle.registers.specs.declared.answer.Response.{Response}
 use Rattle.registers.specs.declared.answer.Reaction.{Reaction}
-use Rattle.registers.specs.declared.answer.Reaction.TheVariants.{Nothing, Tell, Choose}
+use Rattle.registers.specs.declared.answer.Reaction.TheVariants.{Nothing, Tell}
 use Rattle.registers.specs.declared.refusal.Refusal.{Refusal}
 use Rattle.registers.specs.declared.state.State.{State}
 use Rattle.registers.specs.declared.state.State.TheVariants.{Idle, Arbitrating, Selecting, Waiting, Asked, Transferring, Disabled}

@@ -1,5 +1,5 @@
 -- Reading and writing registers and bytes of data, ticks and the reset: what each leaves and answers.
-use Rattle.std.specs.Prelude.{ℕ, ◌+◌, ◌-◌, ◌*◌, ◌/◌, ◌%◌, Bool, true, false, cond, not, ◌&&◌, ◌||◌, List, [], drop, is_some, Some, None, ◌==◌, bit_and, nat_lt, slice_index}
+use Rattle.std.specs.Prelude.{ℕ, ◌+◌, ◌-◌, ◌*◌, ◌/◌, ◌%◌, Bool, false, cond, not, ◌&&◌, ◌||◌, drop, is_some, Some, ◌==◌, bit_and, nat_lt, slice_index}
 use Rattle.bus.specs.Phases.{phase_number}
 use Rattle.registers.specs.declared.answer.Reaction.TheVariants.{Nothing}
 use Rattle.registers.specs.declared.refusal.Refusal.TheVariants.{NoRegister, ReadOnly, ChipDisabled, Busy, NoByte, Dma}
@@ -9,8 +9,8 @@ use Rattle.registers.specs.Commands.{code_of, command_of}
 use Rattle.registers.specs.Registers.{register_at}
 use Rattle.registers.specs.States.{is_busy, is_selecting, is_disabled}
 use Rattle.chip.specs.Views.{View, to_control, to_destination, to_counter, to_interrupt, to_parity_error, to_received, to_written}
-use Rattle.chip.specs.Outcomes.{Outcome, gives, silent, refused, dropping_ack, raised, gone_idle, made_new, losing, quiet, valued, is_empty, in_dma, wants_byte}
-use Rattle.chip.specs.Orders.{commanded, resets}
+use Rattle.chip.specs.Outcomes.{Outcome, gives, silent, refused, dropping_ack, raised, gone_idle, quiet, valued, is_empty, in_dma, wants_byte}
+use Rattle.chip.specs.Orders.{commanded}
 
 -- Auxiliary Status: Full weighs 128, Parity Error 64, the latched phase 8, Paused 4 and Counter Zero 2
 abbrev pub status_of : View → ℕ

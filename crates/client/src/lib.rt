@@ -37,7 +37,7 @@ pub struct Findings<S> {
 }
 
 fn select<S: Station>(string: &mut ScsiString<S>) -> Answer
-    ensures { GoesOn meaning (a_write 1 9) (values string.old) result (values string.new) }
+    ensures { GoesOn S.meaning (a_write 1 9) (values string.old) result (values string.new) }
 {
     string.write(COMMAND, SELECT)
 }
@@ -51,7 +51,7 @@ pub fn survey<S: Station>(
     calls: &[Call],
     answers: &mut [Answer],
 ) -> Findings<S>
-    ensures { Kept meaning station
+    ensures { Kept S.meaning station
         ((a_write 3 destination ∷ a_write 14 16 ∷ a_write 4 0 ∷ a_write 1 9 ∷ a_turn ∷ a_tick ∷ a_turn ∷ a_read 6 ∷ []) ++ (calls_run calls.now result.ran ++ (a_dma_write 85 ∷ a_dma_read ∷ a_read 4 ∷ a_reset ∷ a_read 6 ∷ [])))
         (result.before ++ (answers_run calls.now answers.new result.ran ++ result.after))
         (values result.string) }

@@ -1,17 +1,15 @@
 -- A drive serves any command from its choosing to Off.
-use Rattle.std.proofs.Common.{◌≡◌, ℕ, suc, ◌+◌, ◌*◌, ◌/◌, ◌<◌, ◌≤◌, min, Bool, true, false, cond, ◌&&◌, eqb, leb, List, [], ◌∷◌, ◌++◌, map, length, get_or, take, drop, sym, refl, ap, ◌∙◌, mul-div_cancel, arith, lit<, lit≤, length-drop, length-take-le, drop-drop}
+use Rattle.std.proofs.Common.{◌≡◌, ℕ, ◌+◌, ◌*◌, ◌/◌, ◌≤◌, min, Bool, true, false, cond, leb, List, [], ◌∷◌, ◌++◌, map, length, get_or, take, drop, sym, refl, ap, ◌∙◌, mul-div_cancel, arith, lit<, lit≤, length-drop, length-take-le, drop-drop}
 use native.Mathlib.Nat.{min-eq_left, mod-add-div'}
 use Rattle.std.proofs.lemmas.Bool.{eq-eqb, ne_eqb, le-leb, lt-leb}
-use Rattle.bus.specs.declared.wish.Wish.{Wish}
 use Rattle.bus.specs.Courses.{wishes, told_all}
 use Rattle.drive.specs.declared.command.Command.TheVariants.{TestUnitReady, Read, Other}
 use Rattle.drive.specs.declared.command.Reply.{Reply as ReplyOf}
-use Rattle.drive.specs.declared.drive.Stage.{Stage}
-use Rattle.drive.specs.declared.drive.Stage.TheVariants.{Idle, MessageOut, Command, Reply, Complete, Leaving}
+use Rattle.drive.specs.declared.drive.Stage.TheVariants.{Idle, Reply}
 use Rattle.drive.specs.declared.drive.Drive.{Drive}
 use Rattle.drive.specs.Images.{blocks_in, stored, first_of}
 use Rattle.drive.specs.Commands.{decoded, reply, reply_to, read_first, read_count}
-use Rattle.drive.specs.Drives.{store_of, at_stage, called_on, left_of, reply_bytes, reply_goes, wants_at, drive_meaning}
+use Rattle.drive.specs.Drives.{store_of, at_stage, called_on, left_of, reply_bytes, reply_goes, drive_meaning}
 use Rattle.drive.specs.Services.{answer_to, sent_for, status_for, Right, data_wish, closing_wishes, message_wishes, command_wishes, Serves, ServesAll, Edge}
 
 module _ (store c : List ℕ) where

@@ -1,5 +1,5 @@
 -- What the six bytes of a command mean, and what the drive answers.
-use Rattle.std.specs.Prelude.{ℕ, ◌+◌, ◌*◌, ◌%◌, Bool, cond, List, [], ◌∷◌, ◌==◌, nat_le, slice_index}
+use Rattle.std.specs.Prelude.{ℕ, ◌+◌, ◌*◌, ◌%◌, cond, List, [], ◌∷◌, ◌==◌, nat_le, slice_index}
 use Rattle.drive.specs.declared.command.Command.{Command}
 use Rattle.drive.specs.declared.command.Command.TheVariants.{TestUnitReady, Read, Other}
 use Rattle.drive.specs.declared.command.CommandBlock.{CommandBlock}

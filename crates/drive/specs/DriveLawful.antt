@@ -1,5 +1,5 @@
 -- Proofs: a drive keeps the clauses that all stations share.
-use Rattle.std.specs.Prelude.{◌≡◌, ℕ, ◌+◌, Bool, true, false, cond, ◌&&◌, List, [], ◌∷◌, ◌++◌, length, drop, ◌==◌, refl}
+use Rattle.std.specs.Prelude.{◌≡◌, ℕ, Bool, true, false, cond, List, [], ◌∷◌, ◌++◌, length, drop, ◌==◌, refl}
 use Rattle.std.proofs.Common.{sym, ap, ◌∙◌, append-nil, drop-drop}
 use Rattle.std.proofs.lemmas.Bool.{and_parts}
 use Rattle.bus.specs.Wishes.{offers, is_off}

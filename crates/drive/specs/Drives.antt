@@ -1,5 +1,5 @@
 -- What a drive means.
-use Rattle.std.specs.Prelude.{◌≡◌, ℕ, ◌+◌, Bool, true, cond, ◌&&◌, List, [], ◌∷◌, ◌++◌, map, length, drop, Some, None, Option, ◌==◌, nat_lt, slice_set}
+use Rattle.std.specs.Prelude.{◌≡◌, ℕ, ◌+◌, Bool, cond, ◌&&◌, List, [], drop, Some, None, Option, ◌==◌, nat_lt, slice_set}
 use Rattle.bus.specs.declared.address.StationAddress.{StationAddress}
 use Rattle.bus.specs.declared.parity.Parity.TheVariants.{Good}
 use Rattle.bus.specs.declared.phase.Phase.TheVariants.{DataIn, Status, MessageOut as MessageOutPhase, MessageIn, Command as CommandPhase}

@@ -1,5 +1,5 @@
 -- Disc images: blocks of 512 bytes, one after the other.
-use Rattle.std.specs.Prelude.{ℕ, ◌+◌, ◌*◌, ◌/◌, min, Bool, cond, ◌&&◌, List, [], ◌∷◌, length, take, drop, Some, None, Option, nat_lt, slice_index}
+use Rattle.std.specs.Prelude.{ℕ, ◌+◌, ◌*◌, ◌/◌, min, cond, ◌&&◌, List, [], ◌∷◌, length, take, drop, Some, None, Option, nat_lt, slice_index}
 
 abbrev pub block_size : ℕ
 block_size = 512

@@ -1,4 +1,5 @@
 // The drive: a station that answers commands from a disc image.
+#![tactic(auto)]
 
 pub mod command;
 pub mod drive;

@@ -1,4 +1,6 @@
 // Bytes as people read them: sixteen to a line, in hex and as text.
+#![tactic(auto)]
+
 use std::fmt;
 
 // Shows bytes with the offset of each line, and their ASCII text at the side.

@@ -37,7 +37,7 @@ fn serve<S: Station>(
     calls: &[Call],
     answers: &mut [Answer],
 ) -> (Ncr5385e, S, Result<Ran, RunRefusal>)
-    ensures { RunSays meaning calls.now (line (model chip) station) answers.old (line (model result.0) result.1) answers.new result.2 }
+    ensures { RunSays S.meaning calls.now (line (model chip) station) answers.old (line (model result.0) result.1) answers.new result.2 }
 {
     let mut string = ScsiString::from_parts(chip, station);
     let ran = string.run(calls, answers);

@@ -22,7 +22,7 @@ pub fn trial<S: Station>(
     calls: &[Call],
     answers: &mut [Answer],
 ) -> (ScsiString<S>, Result<Ran, RunRefusal>)
-    ensures { TrialSays meaning address.number station calls.now answers.old (values result.0) answers.new result.1 }
+    ensures { TrialSays S.meaning address.number station calls.now answers.old (values result.0) answers.new result.1 }
 {
     make_and_run(address, station, calls, answers)
 }
@@ -33,7 +33,7 @@ fn make_and_run<S: Station>(
     calls: &[Call],
     answers: &mut [Answer],
 ) -> (ScsiString<S>, Result<Ran, RunRefusal>)
-    ensures { RunSays meaning calls.now (line (made_new address.number) station) answers.old (values result.0) answers.new result.1 }
+    ensures { RunSays S.meaning calls.now (line (made_new address.number) station) answers.old (values result.0) answers.new result.1 }
 {
     let mut string = ScsiString::new(address, station);
     let ran = string.run(calls, answers);

@@ -1,4 +1,6 @@
 // The words of the chip: its states, registers and commands, what it refuses, and what a call answers.
+#![tactic(auto)]
+
 pub mod answer;
 pub mod call;
 pub mod command;

@@ -1,5 +1,5 @@
 -- Counting the bytes from a place on: each record has its own, and the place that follows has the others.
-use Rattle.std.proofs.Common.{◌≡◌, ℕ, ◌+◌, ◌-◌, ◌<◌, ◌≤◌, Bool, true, false, cond, List, ◌++◌, length, get_or, sym, refl, ap, ◌∙◌, arith, length-append}
+use Rattle.std.proofs.Common.{◌≡◌, ℕ, ◌+◌, ◌-◌, ◌<◌, Bool, true, false, cond, List, length, get_or, sym, refl, ap, ◌∙◌, arith, length-append}
 use Rattle.chain.specs.Chain.{leads}
 use Rattle.chain.proofs.Steps.{led}
 use Rattle.script.specs.declared.row.Row.{Row}

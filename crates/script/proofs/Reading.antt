@@ -1,5 +1,5 @@
 -- A Req is read off its record.
-use Rattle.std.proofs.Common.{◌≡◌, ℕ, Bool, true, false, cond, Some, sym, refl, ap, ◌∙◌, subst, arith}
+use Rattle.std.proofs.Common.{◌≡◌, ℕ, Bool, true, false, cond, Some, sym, refl, subst, arith}
 use Rattle.bus.specs.declared.parity.Parity.{Parity}
 use Rattle.bus.specs.declared.parity.Parity.TheVariants.{Good}
 use Rattle.bus.specs.declared.phase.Phase.{Phase}

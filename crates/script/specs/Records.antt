@@ -1,5 +1,5 @@
 -- What the five numbers of a row say.
-use Rattle.std.specs.Prelude.{◌≡◌, ℕ, Bool, true, cond, List, Ok, Err, Result, ◌==◌, nat_le, nat_lt}
+use Rattle.std.specs.Prelude.{◌≡◌, ℕ, cond, List, Ok, Err, Result, ◌==◌, nat_le, nat_lt}
 use Rattle.std.specs.Option as options
 use Rattle.std.specs.Result as results
 use Rattle.bus.specs.declared.parity.Parity.{Parity}

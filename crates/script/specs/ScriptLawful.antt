@@ -1,5 +1,5 @@
 -- Proofs: a script keeps the clauses that all stations share.
-use Rattle.std.specs.Prelude.{◌≡◌, ℕ, ◌-◌, Bool, true, false, cond, ◌&&◌, List, [], ◌∷◌, ◌++◌, length, get_or, drop, ◌==◌, slice_index_or, refl}
+use Rattle.std.specs.Prelude.{◌≡◌, ℕ, ◌-◌, Bool, true, false, cond, List, [], ◌++◌, length, get_or, drop, ◌==◌, slice_index_or, refl}
 use Rattle.std.proofs.Common.{sym, ap, ◌∙◌, append-nil, arith}
 use Rattle.std.proofs.Math.Seq.{drop-append_seam}
 use Rattle.std.proofs.lemmas.List.{get_or_default}
@@ -13,7 +13,7 @@ use Rattle.script.specs.declared.row.Row.{Row}
 use Rattle.script.specs.declared.script.Place.{Place}
 use Rattle.script.specs.declared.script.Place.TheVariants.{At, End, Leaving}
 use Rattle.script.specs.declared.script.Script.{Script}
-use Rattle.script.specs.Records.{played, row_byte}
+use Rattle.script.specs.Records.{row_byte}
 use Rattle.script.specs.Scripts.{next_of, no_row, follow, next_place, wants_at, waiting_at, moved, script_meaning}
 
 abbrev bytes_from : List Row → ℕ → List ℕ

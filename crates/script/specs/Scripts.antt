@@ -1,5 +1,5 @@
 -- What a script means.
-use Rattle.std.specs.Prelude.{◌≡◌, ℕ, ◌-◌, Bool, cond, ◌&&◌, List, [], ◌∷◌, ◌++◌, length, take, Some, None, Option, ◌==◌, slice_index_or}
+use Rattle.std.specs.Prelude.{◌≡◌, ℕ, ◌-◌, cond, ◌&&◌, List, [], ◌∷◌, ◌++◌, length, take, Some, None, Option, ◌==◌, slice_index_or}
 use Rattle.bus.specs.declared.address.StationAddress.{StationAddress}
 use Rattle.bus.specs.declared.wish.Wish.{Wish}
 use Rattle.bus.specs.declared.wish.Wish.TheVariants.{Off, Go}

@@ -1,4 +1,6 @@
 // The script: a station that plays a table of rows along its chain.
+#![tactic(auto)]
+
 pub mod record;
 pub mod refusal;
 pub mod row;

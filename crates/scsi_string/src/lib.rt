@@ -1,4 +1,6 @@
 // The string: the chip and one station on its cable.
+#![tactic(auto)]
+
 ghost use Rattle.std.specs.Prelude.{◌≡◌, [], ◌+◌, ◌^◌, ◌<◌, ◌≤◌, length, set};
 ghost use Rattle.chip.specs.Model.{model};
 ghost use Rattle.chip.specs.Outcomes.{made_new};
@@ -96,63 +98,63 @@ impl<S: Station> ScsiString<S> {
 
     // The host reads a register.
     pub fn read(&mut self, address: u8) -> Answer
-        ensures answer { result ≡ (read_step meaning address (values self.old)).answer }
-        ensures after { values self.new ≡ (read_step meaning address (values self.old)).left }
-        ensures fates { GoesOn meaning (a_read address) (values self.old) result (values self.new) }
+        ensures answer { result ≡ (read_step S.meaning address (values self.old)).answer }
+        ensures after { values self.new ≡ (read_step S.meaning address (values self.old)).left }
+        ensures fates { GoesOn S.meaning (a_read address) (values self.old) result (values self.new) }
     {
         self.read_step(address)
     }
 
     // The host writes a register.
     pub fn write(&mut self, address: u8, value: u8) -> Answer
-        ensures answer { result ≡ (write_step meaning address value (values self.old)).answer }
-        ensures after { values self.new ≡ (write_step meaning address value (values self.old)).left }
-        ensures fates { GoesOn meaning (a_write address value) (values self.old) result (values self.new) }
+        ensures answer { result ≡ (write_step S.meaning address value (values self.old)).answer }
+        ensures after { values self.new ≡ (write_step S.meaning address value (values self.old)).left }
+        ensures fates { GoesOn S.meaning (a_write address value) (values self.old) result (values self.new) }
     {
         self.write_step(address, value)
     }
 
     // The host's DMA reads a byte of data.
     pub fn dma_read(&mut self) -> Answer
-        ensures answer { result ≡ (dma_read_step meaning (values self.old)).answer }
-        ensures after { values self.new ≡ (dma_read_step meaning (values self.old)).left }
-        ensures fates { GoesOn meaning (a_dma_read) (values self.old) result (values self.new) }
+        ensures answer { result ≡ (dma_read_step S.meaning (values self.old)).answer }
+        ensures after { values self.new ≡ (dma_read_step S.meaning (values self.old)).left }
+        ensures fates { GoesOn S.meaning (a_dma_read) (values self.old) result (values self.new) }
     {
         self.dma_read_step()
     }
 
     // The host's DMA writes a byte of data.
     pub fn dma_write(&mut self, value: u8) -> Answer
-        ensures answer { result ≡ (dma_write_step meaning value (values self.old)).answer }
-        ensures after { values self.new ≡ (dma_write_step meaning value (values self.old)).left }
-        ensures fates { GoesOn meaning (a_dma_write value) (values self.old) result (values self.new) }
+        ensures answer { result ≡ (dma_write_step S.meaning value (values self.old)).answer }
+        ensures after { values self.new ≡ (dma_write_step S.meaning value (values self.old)).left }
+        ensures fates { GoesOn S.meaning (a_dma_write value) (values self.old) result (values self.new) }
     {
         self.dma_write_step(value)
     }
 
     // 1,024 clocks of the chip have passed.
     pub fn tick(&mut self) -> Answer
-        ensures answer { result ≡ (tick_step meaning (values self.old)).answer }
-        ensures after { values self.new ≡ (tick_step meaning (values self.old)).left }
-        ensures fates { GoesOn meaning (a_tick) (values self.old) result (values self.new) }
+        ensures answer { result ≡ (tick_step S.meaning (values self.old)).answer }
+        ensures after { values self.new ≡ (tick_step S.meaning (values self.old)).left }
+        ensures fates { GoesOn S.meaning (a_tick) (values self.old) result (values self.new) }
     {
         self.tick_step()
     }
 
     // The cable may move: the chip looks at the station's wish.
     pub fn turn(&mut self) -> Answer
-        ensures answer { result ≡ (turn_step meaning (values self.old)).answer }
-        ensures after { values self.new ≡ (turn_step meaning (values self.old)).left }
-        ensures fates { GoesOn meaning (a_turn) (values self.old) result (values self.new) }
+        ensures answer { result ≡ (turn_step S.meaning (values self.old)).answer }
+        ensures after { values self.new ≡ (turn_step S.meaning (values self.old)).left }
+        ensures fates { GoesOn S.meaning (a_turn) (values self.old) result (values self.new) }
     {
         self.turn_step()
     }
 
     // The host pulls the chip's reset line.
     pub fn reset(&mut self) -> Answer
-        ensures answer { result ≡ (reset_step meaning (values self.old)).answer }
-        ensures after { values self.new ≡ (reset_step meaning (values self.old)).left }
-        ensures fates { GoesOn meaning (a_reset) (values self.old) result (values self.new) }
+        ensures answer { result ≡ (reset_step S.meaning (values self.old)).answer }
+        ensures after { values self.new ≡ (reset_step S.meaning (values self.old)).left }
+        ensures fates { GoesOn S.meaning (a_reset) (values self.old) result (values self.new) }
     {
         self.reset_step()
     }
@@ -160,14 +162,14 @@ impl<S: Station> ScsiString<S> {
     // Makes the calls in their order, and fills as many answers. It is refused where there are more than 65,536 calls, or
     // fewer answers than calls; then nothing changes. A run counts as its calls.
     pub fn run(&mut self, calls: &[Call], answers: &mut [Answer]) -> Result<Ran, RunRefusal>
-        ensures says { RunSays meaning calls.now (values self.old) answers.old (values self.new) answers.new result }
-        ensures fates { RunGoesOn meaning calls.now (values self.old) (values self.new) result }
+        ensures says { RunSays S.meaning calls.now (values self.old) answers.old (values self.new) answers.new result }
+        ensures fates { RunGoesOn S.meaning calls.now (values self.old) (values self.new) result }
     {
         self.run_steps(calls, answers)
     }
 
     fn run_steps(&mut self, calls: &[Call], answers: &mut [Answer]) -> Result<Ran, RunRefusal>
-        ensures { RunSays meaning calls.now (values self.old) answers.old (values self.new) answers.new result }
+        ensures { RunSays S.meaning calls.now (values self.old) answers.old (values self.new) answers.new result }
     {
         if calls.len() > MOST_CALLS || answers.len() < calls.len() {
             return Err(RunRefusal::NoRoom);
@@ -185,9 +187,9 @@ impl<S: Station> ScsiString<S> {
     // Makes a call, puts its answer at a place, and adds up the bytes lost.
     fn fill(&mut self, answers: &mut [Answer], at: usize, call: Call, lost: u32) -> u32
         requires { (at < length answers.old) × (lost < 2 ^ 31) }
-        ensures after { values self.new ≡ (step_of meaning (call_of call) (values self.old)).left }
-        ensures filled { answers.new ≡ set answers.old at (step_of meaning (call_of call) (values self.old)).answer }
-        ensures lost { result ≡ lost + (step_of meaning (call_of call) (values self.old)).answer.lost }
+        ensures after { values self.new ≡ (step_of S.meaning (call_of call) (values self.old)).left }
+        ensures filled { answers.new ≡ set answers.old at (step_of S.meaning (call_of call) (values self.old)).answer }
+        ensures lost { result ≡ lost + (step_of S.meaning (call_of call) (values self.old)).answer.lost }
         ensures bound { result ≤ lost + 255 }
     {
         let answer = self.make(call);
@@ -197,8 +199,8 @@ impl<S: Station> ScsiString<S> {
 
     // One call of a list; a kind that there is not is answered with 9.
     fn make(&mut self, call: Call) -> Answer
-        ensures answer { result ≡ (step_of meaning (call_of call) (values self.old)).answer }
-        ensures after { values self.new ≡ (step_of meaning (call_of call) (values self.old)).left }
+        ensures answer { result ≡ (step_of S.meaning (call_of call) (values self.old)).answer }
+        ensures after { values self.new ≡ (step_of S.meaning (call_of call) (values self.old)).left }
     {
         match call.kind {
             0 => self.read_step(call.address),
@@ -216,8 +218,8 @@ impl<S: Station> ScsiString<S> {
     }
 
     fn read_step(&mut self, address: u8) -> Answer
-        ensures answer { result ≡ (read_step meaning address (values self.old)).answer }
-        ensures after { values self.new ≡ (read_step meaning address (values self.old)).left }
+        ensures answer { result ≡ (read_step S.meaning address (values self.old)).answer }
+        ensures after { values self.new ≡ (read_step S.meaning address (values self.old)).left }
     {
         let response = self.chip.read(address);
         self.hear(response.reaction);
@@ -225,8 +227,8 @@ impl<S: Station> ScsiString<S> {
     }
 
     fn write_step(&mut self, address: u8, value: u8) -> Answer
-        ensures answer { result ≡ (write_step meaning address value (values self.old)).answer }
-        ensures after { values self.new ≡ (write_step meaning address value (values self.old)).left }
+        ensures answer { result ≡ (write_step S.meaning address value (values self.old)).answer }
+        ensures after { values self.new ≡ (write_step S.meaning address value (values self.old)).left }
     {
         let response = self.chip.write(address, value);
         self.hear(response.reaction);
@@ -234,8 +236,8 @@ impl<S: Station> ScsiString<S> {
     }
 
     fn dma_read_step(&mut self) -> Answer
-        ensures answer { result ≡ (dma_read_step meaning (values self.old)).answer }
-        ensures after { values self.new ≡ (dma_read_step meaning (values self.old)).left }
+        ensures answer { result ≡ (dma_read_step S.meaning (values self.old)).answer }
+        ensures after { values self.new ≡ (dma_read_step S.meaning (values self.old)).left }
     {
         let response = self.chip.dma_read();
         self.hear(response.reaction);
@@ -243,8 +245,8 @@ impl<S: Station> ScsiString<S> {
     }
 
     fn dma_write_step(&mut self, value: u8) -> Answer
-        ensures answer { result ≡ (dma_write_step meaning value (values self.old)).answer }
-        ensures after { values self.new ≡ (dma_write_step meaning value (values self.old)).left }
+        ensures answer { result ≡ (dma_write_step S.meaning value (values self.old)).answer }
+        ensures after { values self.new ≡ (dma_write_step S.meaning value (values self.old)).left }
     {
         let response = self.chip.dma_write(value);
         self.hear(response.reaction);
@@ -252,8 +254,8 @@ impl<S: Station> ScsiString<S> {
     }
 
     fn tick_step(&mut self) -> Answer
-        ensures answer { result ≡ (tick_step meaning (values self.old)).answer }
-        ensures after { values self.new ≡ (tick_step meaning (values self.old)).left }
+        ensures answer { result ≡ (tick_step S.meaning (values self.old)).answer }
+        ensures after { values self.new ≡ (tick_step S.meaning (values self.old)).left }
     {
         let response = self.chip.tick();
         self.hear(response.reaction);
@@ -261,8 +263,8 @@ impl<S: Station> ScsiString<S> {
     }
 
     fn turn_step(&mut self) -> Answer
-        ensures answer { result ≡ (turn_step meaning (values self.old)).answer }
-        ensures after { values self.new ≡ (turn_step meaning (values self.old)).left }
+        ensures answer { result ≡ (turn_step S.meaning (values self.old)).answer }
+        ensures after { values self.new ≡ (turn_step S.meaning (values self.old)).left }
     {
         let wish = self.station.wish();
         let response = self.chip.turn(wish);
@@ -277,8 +279,8 @@ impl<S: Station> ScsiString<S> {
     }
 
     fn reset_step(&mut self) -> Answer
-        ensures answer { result ≡ (reset_step meaning (values self.old)).answer }
-        ensures after { values self.new ≡ (reset_step meaning (values self.old)).left }
+        ensures answer { result ≡ (reset_step S.meaning (values self.old)).answer }
+        ensures after { values self.new ≡ (reset_step S.meaning (values self.old)).left }
     {
         let response = self.chip.reset();
         self.hear(response.reaction);
@@ -287,7 +289,7 @@ impl<S: Station> ScsiString<S> {
 
     // The station is told where the chip says so. Only a turn has it chosen.
     fn hear(&mut self, reaction: Reaction)
-        ensures { values self.new ≡ line (values self.old).chip (heard meaning reaction self.old.station) }
+        ensures { values self.new ≡ line (values self.old).chip (heard S.meaning reaction self.old.station) }
     {
         match reaction {
             Reaction::Tell(byte) => self.station.told(byte),
@@ -297,8 +299,8 @@ impl<S: Station> ScsiString<S> {
 
     // The station is chosen; a yes is heard by the chip.
     fn choose(&mut self, destination: u8, atn: bool, unheard: Answer) -> Answer
-        ensures answer { result ≡ (chosen_step meaning destination atn unheard (values self.old)).answer }
-        ensures after { values self.new ≡ (chosen_step meaning destination atn unheard (values self.old)).left }
+        ensures answer { result ≡ (chosen_step S.meaning destination atn unheard (values self.old)).answer }
+        ensures after { values self.new ≡ (chosen_step S.meaning destination atn unheard (values self.old)).left }
     {
         if self.station.chosen(StationAddress::new(destination), atn) {
             self.chip.hear_yes();

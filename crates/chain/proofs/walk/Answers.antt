@@ -1,4 +1,4 @@
-use Rattle.std.proofs.Common.{◌≡◌, length, sym, ◌∙◌, arith}
+use Rattle.std.proofs.Common.{length, sym, ◌∙◌, arith}
 use Rattle.chain.proofs.Steps.{led}
 use Rattle.chain.proofs.Keeps.{empty, counted, refused, onward}
 use Rattle.chain.proofs.walk.Goals as goal

@@ -1,4 +1,4 @@
-use mathlib.Core.Path.{◌≡◌, refl, ◌∙◌}
+use mathlib.Core.Path.{refl, ◌∙◌}
 use Prim.Native.Nat.{◌<◌}
 use native.Mathlib.Nat.{zero-add}
 use native.Mathlib.Omega.{arith}
@@ -28,4 +28,4 @@ loop-i-preserved g c =
 pub returns : goal.returns
 returns g c =
     let inv = c.loop-i.invariant in
-    all_ran g.S.Station.meaning c.args.calls.now c.loop-i.i _ (values c.loop-i.self) _ c.loop-i.answers _ c.loop-i-test.false c.loop-i.auto.i-end c.if-answers-calls.false c.if-calls-gt-MOST-CALLS.false inv.1 inv.2 inv.3 inv.4
+    all_ran g.S.Station.meaning c.args.calls.now c.loop-i.i _ (values c.loop-i.self) _ c.loop-i.answers _ c.loop-i-test.false c.loop-i.auto.i-end c.if-answers-calls.false c.if-calls-gt-MOST_CALLS.false inv.1 inv.2 inv.3 inv.4

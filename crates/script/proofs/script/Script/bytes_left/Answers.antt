@@ -1,6 +1,5 @@
-use Rattle.std.proofs.Common.{◌≡◌, ◌+◌, ◌<◌, length, ap, ◌∙◌, arith}
+use Rattle.std.proofs.Common.{◌≡◌, length, ap, arith}
 use Rattle.script.specs.declared.script.Place.TheVariants.{At}
-use Rattle.script.specs.Records.{row_byte}
 use Rattle.script.specs.Scripts.{follow, waiting_at}
 use Rattle.script.proofs.Counting.{still, fewer, one_more}
 use Rattle.script.proofs.script.Script.bytes_left.Goals as goal
