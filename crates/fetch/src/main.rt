@@ -1,4 +1,6 @@
 // Fetches blocks off a drive through the chip, as a host of 1986 would: fetch [--pio|--dma].. IMAGE ADDRESS BLOCK COUNT [BREAK-AFTER]
+#![tactic(auto)]
+
 mod host;
 mod names;
 mod order;
@@ -12,6 +14,7 @@ use host::{HOST, Host};
 use order::{Order, Way, order_of};
 use scsi_string::ScsiString;
 use std::io::{BufWriter, Write};
+use std::process::ExitCode;
 use std::{env, fs};
 
 // The one station on the cable is a drive at this address.
@@ -69,10 +72,13 @@ fn run(rt: &HostRuntime) -> anyhow::Result<()> {
     result
 }
 
-fn main(rt: HostRuntime) -> anyhow::Result<()> {
-    let result = run(&rt);
-    if let Err(fault) = &result {
-        let _ = eprintln!(rt; "fetch: {fault}");
+// An error is told on standard error, and the status is 1.
+fn main(rt: HostRuntime) -> ExitCode {
+    match run(&rt) {
+        Ok(()) => ExitCode::SUCCESS,
+        Err(fault) => {
+            let _ = eprintln!(rt; "fetch: {fault}");
+            ExitCode::FAILURE
+        }
     }
-    result
 }

@@ -31,7 +31,7 @@ fn number(
     most: u32,
 ) -> anyhow::Result<u32> {
     let Some(text) = word else {
-        return Err(USAGE.into());
+        return Err(anyhow!(USAGE));
     };
     if let Ok(n) = text.as_str().parse::<u32>() {
         if n <= most {
@@ -57,7 +57,7 @@ pub fn order_of(heap: Global, mut words: Args) -> anyhow::Result<Order> {
         next = words.next();
     }
     let Some(image) = next else {
-        return Err(USAGE.into());
+        return Err(anyhow!(USAGE));
     };
     let address = number(heap, "address", words.next(), 7)?;
     let block = number(heap, "block", words.next(), 0x1f_ffff)?;
@@ -67,7 +67,7 @@ pub fn order_of(heap: Global, mut words: Args) -> anyhow::Result<Order> {
         some => number(heap, "bytes after which to break", some, 65535)?,
     };
     if words.next().is_some() {
-        return Err(USAGE.into());
+        return Err(anyhow!(USAGE));
     }
     if count == 0 {
         return Err(anyhow!("expected the count, at least 1"));

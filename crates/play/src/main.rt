@@ -1,13 +1,17 @@
 // Checks and plays scripts, and shows exchanges with a drive: play (SCRIPT | --image IMAGE COMMAND N)...
+#![tactic(auto)]
+
 mod drives;
 mod scripts;
 mod table;
 
+use anyhow::anyhow;
 use drives::show_exchange;
 use scripts::show_script;
 use std::env;
 use std::env::Args;
 use std::io::{BufWriter, Write};
+use std::process::ExitCode;
 
 const USAGE: &'static str = "usage: play (SCRIPT | --image IMAGE COMMAND N)...";
 
@@ -26,7 +30,7 @@ fn run(rt: &HostRuntime) -> anyhow::Result<()> {
                 words.next(),
                 words.next(),
             ) else {
-                return Err(USAGE.into());
+                return Err(anyhow!(USAGE));
             };
             show_exchange(
                 rt,
@@ -43,10 +47,13 @@ fn run(rt: &HostRuntime) -> anyhow::Result<()> {
     Ok(())
 }
 
-fn main(rt: HostRuntime) -> anyhow::Result<()> {
-    let result = run(&rt);
-    if let Err(fault) = &result {
-        let _ = eprintln!(rt; "play: {fault}");
+// An error is told on standard error, and the status is 1.
+fn main(rt: HostRuntime) -> ExitCode {
+    match run(&rt) {
+        Ok(()) => ExitCode::SUCCESS,
+        Err(fault) => {
+            let _ = eprintln!(rt; "play: {fault}");
+            ExitCode::FAILURE
+        }
     }
-    result
 }

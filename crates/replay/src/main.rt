@@ -8,6 +8,7 @@ use anyhow::anyhow;
 use line::{Line, line_of};
 use session::Session;
 use std::io::{BufRead, BufReader, BufWriter, Write};
+use std::process::ExitCode;
 
 // Plays a session that is whole.
 fn finish<W: Write>(rt: &HostRuntime, out: &mut W, session: &Session) -> anyhow::Result<()> {
@@ -64,10 +65,13 @@ fn run(rt: &HostRuntime) -> anyhow::Result<()> {
     result
 }
 
-fn main(rt: HostRuntime) -> anyhow::Result<()> {
-    let result = run(&rt);
-    if let Err(fault) = &result {
-        let _ = eprintln!(rt; "replay: {fault}");
+// An error is told on standard error, and the status is 1.
+fn main(rt: HostRuntime) -> ExitCode {
+    match run(&rt) {
+        Ok(()) => ExitCode::SUCCESS,
+        Err(fault) => {
+            let _ = eprintln!(rt; "replay: {fault}");
+            ExitCode::FAILURE
+        }
     }
-    result
 }
