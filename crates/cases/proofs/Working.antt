@@ -1,5 +1,5 @@
 -- Each case by computing; where a number is any, or an image is, by what does not depend on it.
-use mathlib.Core.Path.{◌≡◌, refl, sym, ap, ◌∙◌, subst}
+use mathlib.Core.Path.{◌≡◌, refl, sym, ap, subst}
 use mathlib.Core.List.{List, [], ◌∷◌, ◌++◌}
 use Prim.Native.Nat.{ℕ, zero, suc, ◌/◌}
 use native.Mathlib.Omega.{arith}
@@ -9,7 +9,7 @@ use Rattle.registers.specs.Commands.{command_of}
 use Rattle.registers.specs.Registers.{register_at}
 use Rattle.chip.specs.Outcomes.{lines_of}
 use Rattle.chip.specs.Turns.{takes, sends}
-use Rattle.account.specs.Laws.Call.{read, write, tick, turn}
+use Rattle.account.specs.Laws.Call.{write, turn}
 use Rattle.account.specs.Lines.{Line, line}
 use Rattle.script.specs.declared.row.Row.{Row}
 use Rattle.script.specs.declared.script.Script.{Script}

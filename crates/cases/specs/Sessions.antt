@@ -1,9 +1,8 @@
 -- Sessions: calls one after the other on a string, by the definitions that the contracts of the calls use.
 use Rattle.std.specs.Prelude.{List, [], ◌∷◌, ◌++◌, ℕ, zero, suc}
 use Rattle.std.proofs.Common.{lit<}
-use denote.Ref.{MutBor, at_last}
+use Rattle.std.specs.Borrow.{Bor}
 use Rattle.bus.specs.Meaning.{Meaning}
-use Rattle.bus.specs.declared.address.StationAddress.{StationAddress}
 use Rattle.registers.specs.declared.answer.Answer.{Answer}
 use Rattle.chip.specs.Outcomes.{made_new}
 use Rattle.account.specs.Laws.{Call, step_of}
@@ -40,8 +39,8 @@ abbrev pub row : ℕ → ℕ → ℕ → ℕ → Row
 row k p b n = record { kind = k; phase = p; byte = b; parity = 0; next = n }
 
 -- a new string of chip 7 and a script of these rows at address 3, wherever the table lies
-abbrev pub with_script : MutBor (List Row) → List Row → Line Script
-with_script place rows = line (made_new 7) (record { rows = at_last place rows; address = record { number = 3; within = lit< tt }; place = opening rows })
+abbrev pub with_script : Bor (List Row) → List Row → Line Script
+with_script place rows = line (made_new 7) (record { rows = record place { now = rows }; address = record { number = 3; within = lit< tt }; place = opening rows })
 
 -- a new string of chip 7 and a drive at address 2 over any image
 abbrev pub with_drive : Image → Line Drive

@@ -1,4 +1,6 @@
 // The worked cases, as one theorem about the definitions that the contracts of the calls use.
+#![tactic(auto)]
+
 ghost use Rattle.std.specs.Prelude.{[], ◌∷◌, ◌≡◌};
 ghost use Rattle.chip.specs.Outcomes.{made_new};
 ghost use Rattle.chip.specs.Reads.{reads};

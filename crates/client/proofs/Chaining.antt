@@ -1,12 +1,12 @@
 -- One call more, by its contract: the calls, the answers and the account go on.
-use Rattle.std.proofs.Common.{◌≡◌, ℕ, List, [], ◌∷◌, ◌++◌, map, length, take, drop, Ok, Err, Result, sym, refl, ap, ◌∙◌, subst, append_assoc, append-nil}
+use Rattle.std.proofs.Common.{◌≡◌, List, [], ◌∷◌, ◌++◌, map, length, take, drop, Ok, Err, Result, sym, refl, ap, ◌∙◌, subst, append_assoc, append-nil}
 use mathlib.Core.List.{map-append}
 use Rattle.bus.specs.Meaning.{Meaning}
 use Rattle.registers.specs.declared.answer.Answer.{Answer}
 use Rattle.registers.specs.declared.call.Call.{Call as Row}
 use Rattle.registers.specs.declared.call.Ran.{Ran}
 use Rattle.registers.specs.declared.call.RunRefusal.{RunRefusal}
-use Rattle.account.specs.Entries.{Entry, entry}
+use Rattle.account.specs.Entries.{entry}
 use Rattle.account.specs.Fates.{Account, GoesOn, RunGoesOn}
 use Rattle.account.specs.Laws.{Call, step_of}
 use Rattle.account.specs.Lines.{Line}

@@ -1,5 +1,5 @@
 -- What a client can say of its calls: the account of every byte, over exactly these calls and answers.
-use Rattle.std.specs.Prelude.{◌≡◌, ℕ, List, [], ◌∷◌, ◌++◌, map, length, take, Ok, Err, Result}
+use Rattle.std.specs.Prelude.{◌≡◌, ℕ, List, [], ◌++◌, map, length, take, Ok, Err, Result}
 use Rattle.bus.specs.Meaning.{Meaning}
 use Rattle.registers.specs.declared.answer.Answer.{Answer}
 use Rattle.registers.specs.declared.call.Call.{Call as Row}

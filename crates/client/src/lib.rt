@@ -1,5 +1,7 @@
 // A client of the string that knows its calls by their contracts alone. Thirteen calls of every kind and a run stand one
 // behind the other; and from what the contracts say follows the fate of every byte over all of them.
+#![tactic(auto)]
+
 ghost use Rattle.std.specs.Prelude.{[], ◌∷◌, ◌++◌};
 ghost use Rattle.account.specs.Fates.{GoesOn};
 ghost use Rattle.account.specs.Laws.Call.{read as a_read, write as a_write, dma_read as a_dma_read, dma_write as a_dma_write, tick as a_tick, turn as a_turn, reset as a_reset};

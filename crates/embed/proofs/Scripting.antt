@@ -1,5 +1,5 @@
 -- Strings with a script: the same numbers show the same, and what shows the same has the same numbers.
-use Rattle.std.proofs.Common.{◌≡◌, ℕ, ◌-◌, ◌<◌, ◌≤◌, Bool, true, false, cond, ◌&&◌, eqb, List, length, get_or, Result, sym, refl, ap, ◌∙◌, subst, arith}
+use Rattle.std.proofs.Common.{◌≡◌, ℕ, ◌-◌, Bool, true, false, cond, ◌&&◌, eqb, List, length, get_or, Result, sym, refl, ap, ◌∙◌, subst, arith}
 use Rattle.std.proofs.lemmas.List.{get_or_default}
 use Rattle.bus.specs.Meaning.{Meaning}
 use Rattle.bus.specs.Wishes.{is_off}
@@ -14,13 +14,13 @@ use Rattle.breaker.specs.declared.Breaker.{Breaker}
 use Rattle.breaker.specs.declared.Progress.{Progress}
 use Rattle.breaker.specs.Breakers.{progress_of, breaker_meaning}
 use Rattle.breaker.specs.BreakerLawful.{breaker_lawful}
-use Rattle.chain.specs.Chain.{leads, Stands}
+use Rattle.chain.specs.Chain.{leads}
 use Rattle.chain.proofs.Steps.{led}
 use Rattle.script.specs.declared.row.Row.{Row as ScriptRow}
 use Rattle.script.specs.declared.script.Place.{Place}
 use Rattle.script.specs.declared.script.Place.TheVariants.{At, End, Leaving}
 use Rattle.script.specs.declared.script.Script.{Script}
-use Rattle.script.specs.Scripts.{table, next_of, no_row, follow, next_place, wants_at, moved, script_meaning}
+use Rattle.script.specs.Scripts.{table, no_row, follow, next_place, wants_at, moved, script_meaning}
 use Rattle.script.specs.ScriptLawful.{script_lawful}
 use Rattle.saved.specs.Stations.{InTable}
 use Rattle.saved.proofs.One.{one_chip, one_address}

@@ -1,5 +1,5 @@
 -- What is seen of a drive, of a script, and of a breaker over either: all that its meaning depends on, and no reference.
-use Rattle.std.proofs.Common.{◌≡◌, ℕ, Bool, true, false, cond, ◌&&◌, eqb, ltb, leb, List, sym, refl, ap, ◌∙◌}
+use Rattle.std.proofs.Common.{◌≡◌, ℕ, Bool, true, false, cond, ◌&&◌, eqb, ltb, leb, List, refl, ◌∙◌}
 use Rattle.bus.specs.Meaning.{Meaning}
 use Rattle.bus.specs.Wishes.{is_off, shows_data}
 use Rattle.bus.specs.declared.wish.Wish.{Wish}

@@ -1,5 +1,5 @@
 -- Two runs with complete records tell their stations apart.
-use Rattle.std.proofs.Common.{◌≡◌, ℕ, ◌+◌, Bool, true, false, cond, ◌&&◌, eqb, ltb, List, [], ◌∷◌, ◌++◌, length, drop, Ok, Err, Result, sym, refl, ap, ◌∙◌}
+use Rattle.std.proofs.Common.{◌≡◌, ℕ, ◌+◌, Bool, true, cond, ◌&&◌, eqb, ltb, List, [], ◌∷◌, ◌++◌, length, drop, Ok, Err, Result, sym, refl, ap, ◌∙◌}
 use Rattle.std.proofs.lemmas.Bool.{and_parts, and_from, eqb-true, eq-eqb}
 use Rattle.bus.specs.Meaning.{Meaning}
 use Rattle.registers.specs.declared.answer.Answer.{Answer}
@@ -12,7 +12,7 @@ use Rattle.chip.specs.Outcomes.{made_new}
 use Rattle.account.specs.Laws.{step_of}
 use Rattle.account.specs.Runs.{call_of, answered, recorded}
 use Rattle.account.proofs.Records.{complete_record}
-use Rattle.fates.specs.Trials.{reads_byte, record_in, lost_data, same, put_up, Trial, TrialSays, Whole, TellsApart, Compares}
+use Rattle.fates.specs.Trials.{reads_byte, record_in, lost_data, same, put_up, Trial, TrialSays, Whole, Compares}
 
 -- what the calls and their answers tell is what the entries tell, whatever stands behind the answers
 record_is : {S : Type 0} (m : Meaning S) (cs : List Row) (l : Line S) (more : List Answer) → record_in cs (answered m cs l ++ more) ≡ record_of (recorded m cs l)

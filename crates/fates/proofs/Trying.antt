@@ -1,5 +1,5 @@
 -- A string that was made and run keeps the promise.
-use Rattle.std.proofs.Common.{ℕ, List, [], ◌∷◌, ◌++◌, Ok, Err, Result}
+use Rattle.std.proofs.Common.{ℕ, List, [], Ok, Err, Result}
 use Rattle.bus.specs.Meaning.{Meaning, Lawful}
 use Rattle.registers.specs.declared.answer.Answer.{Answer}
 use Rattle.registers.specs.declared.call.Call.{Call as Row}

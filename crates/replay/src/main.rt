@@ -1,4 +1,6 @@
 // Plays sessions from standard input, and prints every answer.
+#![tactic(auto)]
+
 mod answers;
 mod line;
 mod session;

@@ -1,6 +1,5 @@
 -- What a chip keeps, and its numbers.
-use Rattle.std.proofs.Common.{◌≡◌, ℕ, ◌<◌, ◌≤◌, Bool, true, false, cond, not, ◌&&◌, ◌||◌, eqb, leb, List, [], ◌∷◌, length, take, Some, None, Option, sym, refl, ap, ◌∙◌, true≢false, arith, length-take}
-use mathlib.Core.Bool.{false≢true}
+use Rattle.std.proofs.Common.{◌≡◌, ℕ, Bool, true, false, not, ◌&&◌, ◌||◌, eqb, leb, length, Some, None, Option, sym, refl, ap, ◌∙◌, true≢false, arith, length-take}
 use Rattle.std.proofs.lemmas.Bool.{and_parts, and_from, eqb-true, eq-eqb}
 use Rattle.bus.specs.declared.phase.Phase.{Phase}
 use Rattle.bus.specs.Phases.{phase_number, is_input}
@@ -9,7 +8,7 @@ use Rattle.registers.specs.declared.state.State.TheVariants.{Idle, Arbitrating, 
 use Rattle.registers.specs.States.{state_number, is_transferring}
 use Rattle.chip.specs.declared.chip.Ncr5385e.{Ncr5385e}
 use Rattle.chip.specs.declared.chip.Written.{Written}
-use Rattle.chip.specs.Model.{items, model}
+use Rattle.chip.specs.Model.{items}
 use Rattle.chip.specs.Places.{holds_ack}
 use Rattle.saved.specs.Chips.{flag_number, written_numbers, chip_in, keeps_settled, keeps_inward, keeps_alone, keeps_calm, keeps_acked, together}
 use Rattle.saved.specs.declared.numbers.SavedChip.{SavedChip}

@@ -1,5 +1,5 @@
 -- What has the same numbers is the same.
-use Rattle.std.proofs.Common.{◌≡◌, ℕ, ◌-◌, ◌<◌, ◌≤◌, Bool, true, false, cond, eqb, List, [], ◌∷◌, length, get_or, take, Some, None, Option, unwrap_or, sym, refl, ap, ◌∙◌, subst, arith, length-take}
+use Rattle.std.proofs.Common.{◌≡◌, ℕ, ◌<◌, ◌≤◌, Bool, true, false, cond, eqb, List, [], ◌∷◌, length, take, Some, None, Option, unwrap_or, sym, refl, ap, ◌∙◌, subst, arith, length-take}
 use native.Mathlib.Bridge.{le_prop}
 use Rattle.bus.specs.declared.address.StationAddress.{StationAddress}
 use Rattle.bus.specs.declared.phase.Phase.{Phase}

@@ -1,7 +1,6 @@
 -- Stations with the same numbers are at the same stage, place or break.
-use Rattle.std.proofs.Common.{◌≡◌, ℕ, ◌-◌, ◌<◌, cond, eqb, List, length, get_or, sym, refl, ap, ◌∙◌, arith}
+use Rattle.std.proofs.Common.{◌≡◌, ℕ, ◌-◌, cond, eqb, List, get_or, sym, refl, ap, ◌∙◌, arith}
 use Rattle.std.proofs.lemmas.List.{get_or_default}
-use Rattle.chain.specs.Chain.{Stands}
 use Rattle.drive.specs.declared.drive.Stage.{Stage}
 use Rattle.drive.specs.declared.drive.Stage.TheVariants.{Idle, MessageOut, Command, Reply, Complete, Leaving}
 use Rattle.breaker.specs.declared.Stage.{Stage as Break}
@@ -9,7 +8,7 @@ use Rattle.breaker.specs.declared.Stage.TheVariants.{Through, Saving, Disconnect
 use Rattle.script.specs.declared.row.Row.{Row}
 use Rattle.script.specs.declared.script.Place.{Place}
 use Rattle.script.specs.declared.script.Place.TheVariants.{At, End, Leaving as LeavingScript}
-use Rattle.script.specs.Scripts.{next_of, no_row}
+use Rattle.script.specs.Scripts.{no_row}
 use Rattle.saved.specs.Stations.{drive_numbers, break_number, script_numbers, InTable}
 use Rattle.saved.specs.declared.numbers.SavedDrive.{SavedDrive}
 use Rattle.saved.specs.declared.numbers.SavedScript.{SavedScript}

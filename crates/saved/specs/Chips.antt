@@ -1,5 +1,5 @@
 -- The numbers of a chip, and the chip of such numbers.
-use Rattle.std.specs.Prelude.{◌≡◌, ℕ, Bool, true, false, cond, not, ◌&&◌, ◌||◌, List, [], ◌∷◌, length, Some, None, Option, ◌==◌, ◌≢◌, nat_le, slice_index}
+use Rattle.std.specs.Prelude.{◌≡◌, ℕ, Bool, cond, not, ◌&&◌, ◌||◌, List, length, Some, None, Option, ◌==◌, ◌≢◌, nat_le, slice_index}
 use Rattle.bus.specs.Phases.{phase_number}
 use Rattle.registers.specs.States.{state_number}
 use Rattle.chip.specs.declared.chip.Flags.{Flags}

@@ -1,5 +1,5 @@
 -- The numbers of drives, scripts and breakers.
-use Rattle.std.specs.Prelude.{◌≡◌, ℕ, Bool, true, false, cond, ◌&&◌, ◌||◌, List, [], ◌∷◌, Some, None, Option, ◌==◌, ◌≢◌}
+use Rattle.std.specs.Prelude.{◌≡◌, ℕ, Bool, false, ◌&&◌, ◌||◌, List, [], ◌∷◌, Some, None, Option, ◌==◌, ◌≢◌}
 use Rattle.drive.specs.declared.drive.Stage.{Stage}
 use Rattle.drive.specs.declared.drive.Stage.TheVariants.{Idle, MessageOut, Command, Reply, Complete, Leaving}
 use Rattle.breaker.specs.declared.Progress.{Progress}

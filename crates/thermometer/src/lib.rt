@@ -1,3 +1,5 @@
+#![tactic(auto)]
+
 // A station of one's own, as an example: a thermometer. Whenever it is chosen it shows one reading in Data In and goes; the
 // next time it has the next one.
 #[cfg(test)]

@@ -1,4 +1,4 @@
-use Rattle.std.proofs.Common.{◌≡◌, sym, refl, ap, ◌∙◌, subst}
+use Rattle.std.proofs.Common.{sym, refl, ap, ◌∙◌, subst}
 use Rattle.breaker.specs.declared.Breaker.{Breaker}
 use Rattle.chip.specs.Model.{model}
 use Rattle.account.specs.Lines.{Line, line}

@@ -1,4 +1,4 @@
-use Rattle.std.proofs.Common.{◌≡◌, sym, ◌∙◌, arith}
+use Rattle.std.proofs.Common.{◌∙◌, arith}
 use Rattle.fates.proofs.Seeking.{past_calls, past_answers, found_byte, no_byte}
 use Rattle.fates.proofs.records.next_read.Goals as goal
 

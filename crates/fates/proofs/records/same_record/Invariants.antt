@@ -6,8 +6,8 @@ use Rattle.fates.proofs.records.same_record.Given as goal
 abbrev pub invariant-loop-byte : goal.invariant-loop-byte
 invariant-loop-byte l =
     (l.at ≤ length l.calls)
-    × (same (record_from l.calls l.answers l.at) (record_from l.other-calls l.other-answers l.other-at)
-    ≡ same (record_in l.calls l.answers) (record_in l.other-calls l.other-answers))
+    × (same (record_from l.calls l.answers l.at) (record_from l.other_calls l.other_answers l.other_at)
+    ≡ same (record_in l.calls l.answers) (record_in l.other_calls l.other_answers))
 
 abbrev pub decreases-loop-byte : goal.decreases-loop-byte
 decreases-loop-byte l = length l.calls - l.at
