@@ -1,5 +1,5 @@
 -- Every history keeps the law.
-use Rattle.std.proofs.Common.{◌≡◌, ℕ, ◌%◌, Bool, true, false, cond, List, [], ◌∷◌, ◌++◌, Ok, Err, Result, sym, refl, ap, ◌∙◌, subst, true≢false, append_assoc, append-nil}
+use Rattle.std.proofs.Common.{◌≡◌, ℕ, ◌%◌, Bool, true, false, cond, List, [], ◌∷◌, ◌++◌, sym, refl, ap, ◌∙◌, subst, true≢false, append_assoc, append-nil}
 use mathlib.Core.Bool.{false≢true}
 use Rattle.bus.specs.Meaning.{Meaning, Lawful, joined, says_yes}
 use Rattle.bus.specs.Wishes.{offers}
@@ -10,20 +10,15 @@ use Rattle.registers.specs.declared.answer.Reaction.TheVariants.{Nothing, Tell, 
 use Rattle.registers.specs.declared.state.State.{State}
 use Rattle.registers.specs.declared.state.State.TheVariants.{Idle, Arbitrating, Selecting, Waiting, Asked, Transferring, Disabled}
 use Rattle.registers.specs.States.{is_transferring}
-use Rattle.chip.specs.Outcomes.{gives, heard_in, heard_yes, made_new}
+use Rattle.chip.specs.Outcomes.{gives, heard_in, heard_yes}
 use Rattle.chip.specs.Views.{View}
 use Rattle.account.specs.Laws.{Call, step_of}
-use Rattle.account.specs.Laws.Call.{read, write, dma_read, dma_write, tick, turn, reset, unknown}
+use Rattle.account.specs.Laws.Call.{read, write, dma_read, dma_write, tick, turn, reset}
 use Rattle.account.specs.Lines.{Line, line}
 use Rattle.account.specs.Steps.{Step, step, heard, joins, chosen_step, turns_to}
-use Rattle.account.specs.Entries.{Entry, entry}
-use Rattle.account.specs.Fates.{held, Share, Fates, History, EveryFate, Account, GoesOn, RunGoesOn}
+use Rattle.account.specs.Fates.{Entry, entry, held, Share, Fates, History, EveryFate, GoesOn}
 use Rattle.account.specs.Fates.Gone.{none, then}
-use Rattle.account.specs.Fates.History.{begun, called, ran, not_ran}
-use Rattle.account.specs.Runs.{call_of, walked, joining, recorded, RunSays}
-use Rattle.registers.specs.declared.call.Call.{Call as Row}
-use Rattle.registers.specs.declared.call.Ran.{Ran}
-use Rattle.registers.specs.declared.call.RunRefusal.{RunRefusal}
+use Rattle.account.specs.Fates.History.{begun, called}
 use Rattle.account.specs.Sound.{SoundOf}
 use Rattle.account.proofs.Fate.{Fate, Quiet, is_choose, at_rest, nothing}
 use Rattle.account.proofs.Registering.{read_fate, write_fate, dma_read_fate, dma_write_fate, tick_fate, reset_fate}
@@ -114,7 +109,6 @@ module _ {S : Type 0} (m : Meaning S) (law : Lawful m) where
   step_fate tick l h q = carry tick l.chip l.station _ _ _ (tick_fate l.chip (m.wants l.station) h q)
   step_fate turn l h q = turns turn l.chip l.station _ _ _ (turn_fate l.chip (m.wants l.station) h q)
   step_fate reset l h q = carry reset l.chip l.station _ _ _ (reset_fate l.chip (m.wants l.station) h q)
-  step_fate unknown l h q = record { share = []; is = nothing unknown _ _ refl; sound = h; hush = q; all = append-nil _ }
 
   -- the law with what the string keeps true
   record Going (up : List ℕ) (es : List Entry) (l : Line S) : Type 0 where
@@ -138,41 +132,16 @@ module _ {S : Type 0} (m : Meaning S) (law : Lawful m) where
         hush = t.hush;
       }
 
-  -- a list of calls more
-  nexts : (cs : List Row) (up : List ℕ) (es : List Entry) (l : Line S) → Going up es l → Going (up ++ joining m cs l) (es ++ recorded m cs l) (walked m cs l)
-  unfolding joining recorded walked
-  nexts [] up es l f = subst (λ u. Going u (es ++ []) l) (sym (append-nil up)) (subst (λ e. Going up e l) (sym (append-nil es)) f)
-  nexts (c ∷ cs) up es l f =
-      let r = step_of m (call_of c) l in
-      let here = entry (call_of c) l.chip.registers.command r.answer in
-      let after = nexts cs (up ++ r.up) (es ++ (here ∷ [])) r.left (next up es l (call_of c) f) in
-      subst (λ u. Going u (es ++ (here ∷ recorded m cs r.left)) (walked m cs r.left)) (append_assoc up r.up (joining m cs r.left))
-      (subst (λ e. Going ((up ++ r.up) ++ joining m cs r.left) e (walked m cs r.left)) (append_assoc es (here ∷ []) (recorded m cs r.left)) after)
-
   going : (up : List ℕ) (es : List Entry) (l : Line S) → History m up es l → Going up es l
   going up es l (begun i s) = record { fates = record { gone = []; told = none; all = refl }; sound = at_rest refl refl tt; hush = λ t. absurd (false≢true t) }
   going up es l (called u e k h c) = next u e k c (going u e k h)
-  going up es l (ran u e k h cs) = nexts cs u e k (going u e k h)
-  going up es l (not_ran u e k h cs) = going u e k h
 
   pub every_fate : EveryFate m
   every_fate up es l h = (going up es l h).fates
 
-  kept : (up : List ℕ) (es : List Entry) (l : Line S) → History m up es l → Account m up es l
-  kept up es l h = record { history = h; fates = every_fate up es l h }
-
-  -- a string that is made opens an account
-  pub opens : (i : ℕ) (s : S) (l : Line S) → l ≡ line (made_new i) s → Account m (m.waiting s) [] l
-  opens i s l is = subst (λ x. Account m (m.waiting s) [] x) (sym is) (kept _ _ _ (begun i s))
-
-  -- each call goes on with it
+  -- a call that does what its step says keeps the law going
   pub goes_on : (c : Call) (l : Line S) (a : Answer) (l' : Line S) → a ≡ (step_of m c l).answer → l' ≡ (step_of m c l).left → GoesOn m c l a l'
   goes_on c l a l' is left up es h =
       let u = up ++ (step_of m c l).up in
       let k = l.chip.registers.command in
-      subst (λ x. Account m u (es ++ (entry c k a ∷ [])) x) (sym left) (subst (λ x. Account m u (es ++ (entry c k x ∷ [])) (step_of m c l).left) (sym is) (kept _ _ _ (called up es l h c)))
-
-  -- and so does a run
-  pub run_goes_on : (cs : List Row) (l : Line S) (room : List Answer) (l' : Line S) (room' : List Answer) (r : Result Ran RunRefusal) → RunSays m cs l room l' room' r → RunGoesOn m cs l l' r
-  run_goes_on cs l room l' room' (Ok t) did = λ up es h. subst (λ x. Account m (up ++ joining m cs l) (es ++ recorded m cs l) x) (sym did.string) (kept _ _ _ (ran up es l h cs))
-  run_goes_on cs l room l' room' (Err e) did = λ up es h. subst (λ x. Account m up es x) (sym did.string) (kept _ _ _ (not_ran up es l h cs))
+      subst (λ x. Fates m u (es ++ (entry c k a ∷ [])) x) (sym left) (subst (λ x. Fates m u (es ++ (entry c k x ∷ [])) (step_of m c l).left) (sym is) (every_fate _ _ _ (called up es l h c)))

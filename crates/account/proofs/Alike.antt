@@ -1,5 +1,5 @@
 -- Strings of which the same is seen answer alike, and the same is seen of them afterwards.
-use Rattle.std.proofs.Common.{◌≡◌, ℕ, ◌%◌, Bool, true, false, cond, ◌&&◌, eqb, List, [], ◌∷◌, sym, refl, ap, ◌∙◌, subst, true≢false}
+use Rattle.std.proofs.Common.{◌≡◌, ℕ, ◌%◌, Bool, true, false, cond, ◌&&◌, eqb, List, [], ◌∷◌, Some, None, Option, sym, refl, ap, ◌∙◌, subst, true≢false}
 use mathlib.Core.Bool.{false≢true}
 use Rattle.bus.specs.Meaning.{Meaning, says_yes}
 use Rattle.bus.specs.Wishes.{is_off}
@@ -13,9 +13,9 @@ use Rattle.chip.specs.Turns.{turned}
 use Rattle.chip.specs.Views.{View}
 use Rattle.account.specs.Alike.{SeenAs, seen}
 use Rattle.account.specs.Laws.{Call, step_of}
-use Rattle.account.specs.Laws.Call.{read, write, dma_read, dma_write, tick, turn, reset, unknown}
+use Rattle.account.specs.Laws.Call.{read, write, dma_read, dma_write, tick, turn, reset}
 use Rattle.account.specs.Lines.{Line, line}
-use Rattle.account.specs.Runs.{call_of, walked, answered}
+use Rattle.account.specs.Runs.{call_of, listed_step, row_step, walked, answered}
 use Rattle.account.specs.Steps.{Step, step, heard, call_step, chosen_step, turns_to}
 
 module _ {S V : Type 0} (m : Meaning S) (n : Meaning V) (view : S → V) (like : SeenAs m n view) where
@@ -61,21 +61,24 @@ module _ {S V : Type 0} (m : Meaning S) (n : Meaning V) (view : S → V) (like :
       let W : Wish → Type 0 = λ w. Same (turns_to m o o.reaction l.station) (turns_to n (turned l.chip w) (turned l.chip w).reaction (view l.station)) in
       subst W (like.wants l.station) (turn_same o o.reaction l.station)
   step_same reset l = call_same _ l.station
-  step_same unknown l = record { answer = refl; left = refl }
+
+  listed_same : (o : Option Call) (l : Line S) → Same (listed_step m o l) (listed_step n o (seen view l))
+  listed_same (Some c) l = step_same c l
+  listed_same None l = record { answer = refl; left = refl }
 
   pub walked_seen : (cs : List Row) (l : Line S) → seen view (walked m cs l) ≡ walked n cs (seen view l)
   unfolding walked
   walked_seen [] l = refl
   walked_seen (c ∷ cs) l =
-      let k = (step_of m (call_of c) l).left in
-      walked_seen cs k ∙ ap (walked n cs) (step_same (call_of c) l).left
+      let k = (row_step m c l).left in
+      walked_seen cs k ∙ ap (walked n cs) (listed_same (call_of c) l).left
 
   pub answered_seen : (cs : List Row) (l : Line S) → answered m cs l ≡ answered n cs (seen view l)
   unfolding answered
   answered_seen [] l = refl
   answered_seen (c ∷ cs) l =
-      let k = (step_of m (call_of c) l).left in
-      let here = step_same (call_of c) l in
+      let k = (row_step m c l).left in
+      let here = listed_same (call_of c) l in
       let rest = answered_seen cs k ∙ ap (answered n cs) here.left in
       (λ i. here.answer i ∷ rest i)
 
@@ -110,9 +113,12 @@ module _ {S : Type 0} (m : Meaning S) (P : S → Type 0) (told : (s : S) (b : �
   step_keeps tick l h = heard_keeps _ l.station h
   step_keeps turn l h = let o = turned l.chip (m.wants l.station) in turn_keeps o o.reaction l.station h
   step_keeps reset l h = heard_keeps _ l.station h
-  step_keeps unknown l h = h
+
+  listed_keeps : (o : Option Call) (l : Line S) → P l.station → P (listed_step m o l).left.station
+  listed_keeps (Some c) l h = step_keeps c l h
+  listed_keeps None l h = h
 
   pub walked_keeps : (cs : List Row) (l : Line S) → P l.station → P (walked m cs l).station
   unfolding walked
   walked_keeps [] l h = h
-  walked_keeps (c ∷ cs) l h = walked_keeps cs (step_of m (call_of c) l).left (step_keeps (call_of c) l h)
+  walked_keeps (c ∷ cs) l h = walked_keeps cs (row_step m c l).left (listed_keeps (call_of c) l h)

@@ -11,13 +11,13 @@ use Rattle.registers.specs.declared.register.Register.TheVariants.{Data, Command
 use Rattle.registers.specs.declared.state.State.{State}
 use Rattle.registers.specs.declared.state.State.TheVariants.{Idle, Arbitrating, Selecting, Waiting, Asked, Transferring, Disabled}
 use Rattle.registers.specs.Commands.{command_of, is_select, is_transfer}
-use Rattle.registers.specs.Registers.{register_at, is_data}
+use Rattle.registers.specs.Registers.{register_at}
 use Rattle.registers.specs.States.{is_busy, is_connected, is_free, is_selecting, is_disabled}
 use Rattle.chip.specs.Orders.{resets, accepted, starts, started, accepts, offered, commanded}
 use Rattle.chip.specs.Outcomes.{gives, silent, refused, dropping_ack, raised, gone_idle, in_dma, wants_byte, is_empty, quiet, valued}
 use Rattle.chip.specs.Reads.{shifted, takes_data, writing, puts_data, cleared, read_register, reads, write_register, is_chip_reset, writes, dma_reads, dma_writes, ticks}
 use Rattle.chip.specs.Views.{View, to_counter, to_atn, to_ack, to_paused, to_control, to_destination}
-use Rattle.account.specs.RefusalTable.{first, is_command, discards, takes_command, read_rows, read_table, command_rows, write_rows, write_table, dma_read_table, dma_write_table, clock_table}
+use Rattle.account.specs.RefusalTable.{first, is_data, is_command, discards, takes_command, read_rows, read_table, command_rows, write_rows, write_table, dma_read_table, dma_write_table, clock_table}
 use Rattle.account.proofs.Fair.{Fair, either, unless, whether, refuses, plain, stays, hears, loses}
 
 -- the oldest byte, and the others

@@ -13,8 +13,7 @@ use Rattle.account.proofs.Shares.{other_share}
 use Rattle.bus.specs.Wishes.{offers}
 use Rattle.chip.specs.Outcomes.{Outcome, gives, silent, tells, refused, dropping_ack, quiet}
 use Rattle.chip.specs.Views.{View}
-use Rattle.account.specs.Entries.{entry}
-use Rattle.account.specs.Fates.{Share, held}
+use Rattle.account.specs.Fates.{entry, Share, held}
 use Rattle.account.specs.Sound.{Sound, SoundOf, Outward}
 use Rattle.registers.specs.States.{is_transferring}
 use Rattle.account.specs.Laws.{Call}

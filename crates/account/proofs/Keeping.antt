@@ -14,7 +14,7 @@ use Rattle.chip.specs.Views.{View}
 use Rattle.account.specs.Lines.{Line, line}
 use Rattle.account.specs.Steps.{Step, step, heard, joins, call_step, chosen_step, turns_to}
 use Rattle.account.specs.Laws.{Call, step_of, refusal_of, bare, came_in, went_out, reads_data, may_lose, Keeps, Laws}
-use Rattle.account.specs.Laws.Call.{read, write, dma_read, dma_write, tick, turn, reset, unknown}
+use Rattle.account.specs.Laws.Call.{read, write, dma_read, dma_write, tick, turn, reset}
 use Rattle.account.proofs.Fair.{Fair, is_choose}
 use Rattle.account.proofs.FairRegisters.{read_fair, write_fair, dma_read_fair, dma_write_fair, tick_fair, reset_fair}
 use Rattle.account.proofs.FairTurn.{turn_fair}
@@ -91,7 +91,6 @@ module _ {S : Type 0} (m : Meaning S) (l : Line S) where
   keeps tick = as_law tick (by_call _ (tick_fair l.chip))
   keeps turn = as_law turn (by_turn (turned l.chip (m.wants l.station)) _ refl (turn_fair l.chip (m.wants l.station)))
   keeps reset = as_law reset (by_call _ (reset_fair l.chip))
-  keeps unknown = record { refusal = refl; unchanged = λ _. (refl, refl, refl); in_order = λ _. append-nil l.chip.received }
 
   -- with an interrupt pending a turn leaves the chip silent
   still : is_disabled l.chip.state ≡ false → (l.chip.registers.interrupt ≡ 0 → ⊥) → turned l.chip (m.wants l.station) ≡ silent l.chip

@@ -8,6 +8,7 @@ mod Fate
 mod Registering
 mod Turning
 pub mod Account
+pub mod Accounting
 pub mod Records
 pub mod Running
 pub mod Alike

@@ -3,8 +3,7 @@ use Rattle.std.proofs.Common.{◌≡◌, ℕ, ◌+◌, ◌<◌, Bool, true, fals
 use Rattle.std.proofs.lemmas.Bool.{and_parts, ltb-true}
 use Rattle.bus.specs.Meaning.{Meaning, Lawful}
 use Rattle.account.specs.Lines.{Line}
-use Rattle.account.specs.Entries.{Entry, tells_read, tells_lost}
-use Rattle.account.specs.Fates.{Share, Gone, Fates, record_of, lost_of, Complete, RecordsTell}
+use Rattle.account.specs.Fates.{Entry, Share, Gone, Fates, tells_read, tells_lost, record_of, lost_of, Complete, RecordsTell}
 use Rattle.account.specs.Fates.Gone.{none, then}
 use Rattle.account.proofs.Account.{every_fate}
 
@@ -37,7 +36,7 @@ all_read es bytes (then fs before e share g s) z =
     ap (λ r. r ++ share) (all_read fs before g first) ∙ ap (λ r. record_of fs ++ r) (whole e share (tells_read e) (tells_lost e) refl refl s last) ∙ sym (record_snoc fs e)
 
 -- a complete record is what was put up
-pub complete_record : {S : Type 0} (m : Meaning S) (up : List ℕ) (es : List Entry) (l : Line S) → Fates m up es l → Complete m es l → up ≡ record_of es
+complete_record : {S : Type 0} (m : Meaning S) (up : List ℕ) (es : List Entry) (l : Line S) → Fates m up es l → Complete m es l → up ≡ record_of es
 complete_record m up es l f b =
     f.all ∙ ap (λ r. f.gone ++ (r ++ m.waiting l.station)) b.holds ∙ ap (λ r. f.gone ++ r) b.waits ∙ append-nil f.gone ∙ all_read es f.gone f.told b.lost
 

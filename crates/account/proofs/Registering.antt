@@ -24,14 +24,13 @@ use Rattle.chip.specs.Outcomes.{Outcome, gives, silent, refused, dropping_ack, r
 use Rattle.chip.specs.Places.{places}
 use Rattle.chip.specs.Reads.{shows, takes_data, puts_data, cleared, read_register, reads, unless_busy, write_register, is_chip_reset, writes, by_dma, dma_reads, dma_writes, ticks}
 use Rattle.chip.specs.Views.{View, to_control, to_destination, to_counter, to_paused, to_atn, to_ack, to_received}
-use Rattle.account.specs.Entries.{entry}
-use Rattle.account.specs.Fates.{Share, held}
+use Rattle.account.specs.Fates.{entry, Share, held}
 use Rattle.account.specs.Sound.{SoundOf, Outward}
 use Rattle.registers.specs.Commands.{command_of, is_select, is_transfer}
-use Rattle.registers.specs.Registers.{register_at, is_data}
+use Rattle.registers.specs.Registers.{register_at}
 use Rattle.registers.specs.States.{is_transferring, is_busy, is_connected, is_free, is_selecting, is_disabled}
 use Rattle.account.specs.Laws.Call.{read, write, dma_read, dma_write, tick, reset}
-use Rattle.account.specs.RefusalTable.{is_command, discards}
+use Rattle.account.specs.RefusalTable.{is_data, is_command, discards}
 use Rattle.account.specs.Laws.{Call, reads_data, may_lose}
 
 free_rests : (s : State) → is_free s ≡ true → is_transferring s ≡ false

@@ -2,21 +2,20 @@
 use Rattle.std.proofs.Common.{◌≡◌, ℕ, ◌+◌, ◌<◌, ◌≤◌, List, [], ◌∷◌, ◌++◌, length, get_or, take, drop, set, sym, refl, ap, ◌∙◌, append_assoc, append-nil, arith, take-append-drop, drop-set-lt}
 use Rattle.std.proofs.lemmas.List.{drop_more, take_more_set, drop-drop, drop_all}
 use Rattle.bus.specs.Meaning.{Meaning}
-use Rattle.account.specs.Laws.{step_of}
 use Rattle.account.specs.Lines.{Line}
-use Rattle.account.specs.Runs.{call_of, walked, answered, lost_in, RanAs}
+use Rattle.account.specs.Runs.{row_step, walked, answered, lost_in, RanAs}
 use Rattle.registers.specs.declared.answer.Answer.{Answer}
 use Rattle.registers.specs.declared.call.Call.{Call as Row}
 
-module _ {S : Type 0} (m : Meaning S) (cs : List Row) (i : ℕ) (d : Row) (l l' : Line S) (h : i < length cs) (left : l' ≡ (step_of m (call_of (get_or cs i d)) l).left) where
+module _ {S : Type 0} (m : Meaning S) (cs : List Row) (i : ℕ) (d : Row) (l l' : Line S) (h : i < length cs) (left : l' ≡ (row_step m (get_or cs i d) l).left) where
   pub walked_next : walked m (drop (i + 1) cs) l' ≡ walked m (drop i cs) l
   unfolding walked
   walked_next = ap (walked m (drop (i + 1) cs)) left ∙ sym (ap (λ r. walked m r l) (drop_more cs i d h))
 
-  pub answered_next : answered m (drop i cs) l ≡ (step_of m (call_of (get_or cs i d)) l).answer ∷ answered m (drop (i + 1) cs) l'
+  pub answered_next : answered m (drop i cs) l ≡ (row_step m (get_or cs i d) l).answer ∷ answered m (drop (i + 1) cs) l'
   unfolding answered
   answered_next =
-      ap (λ r. answered m r l) (drop_more cs i d h) ∙ sym (ap (λ x. (step_of m (call_of (get_or cs i d)) l).answer ∷ answered m (drop (i + 1) cs) x) left)
+      ap (λ r. answered m r l) (drop_more cs i d h) ∙ sym (ap (λ x. (row_step m (get_or cs i d) l).answer ∷ answered m (drop (i + 1) cs) x) left)
 
 -- the answer goes behind those that stand there
 module _ (xs xs' : List Answer) (i : ℕ) (a : Answer) (is : xs' ≡ set xs i a) where

@@ -8,8 +8,7 @@ use Rattle.registers.specs.declared.answer.Answer.{Answer}
 use Rattle.bus.specs.Phases.{phase_number, in_data_in}
 use Rattle.chip.specs.Outcomes.{valued}
 use Rattle.chip.specs.Views.{View}
-use Rattle.account.specs.Entries.{entry, tells_read, tells_lost}
-use Rattle.account.specs.Fates.{Share}
+use Rattle.account.specs.Fates.{entry, Share, tells_read, tells_lost}
 use Rattle.account.specs.Laws.{Call, reads_data, may_lose}
 
 -- an answer that tells neither a read nor a loss of Data In

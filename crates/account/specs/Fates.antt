@@ -1,21 +1,33 @@
 -- What becomes of the Data In bytes that a station puts up.
-use Rattle.std.specs.Prelude.{◌≡◌, ℕ, ◌+◌, true, false, cond, List, [], ◌∷◌, ◌++◌, length, Ok, Err, Result}
+use Rattle.std.specs.Prelude.{◌≡◌, ℕ, ◌+◌, Bool, true, false, cond, ◌&&◌, List, [], ◌∷◌, ◌++◌, length, ◌==◌, nat_lt}
 use Rattle.bus.specs.Meaning.{Meaning}
 use Rattle.bus.specs.Phases.{in_data_in}
 use Rattle.registers.specs.declared.answer.Answer.{Answer}
-use Rattle.registers.specs.declared.call.Call.{Call as Row}
-use Rattle.registers.specs.declared.call.Ran.{Ran}
-use Rattle.registers.specs.declared.call.RunRefusal.{RunRefusal}
 use Rattle.chip.specs.Outcomes.{made_new}
 use Rattle.chip.specs.Views.{View}
 use Rattle.account.specs.Lines.{Line, line}
-use Rattle.account.specs.Laws.{Call, step_of, may_lose}
-use Rattle.account.specs.Entries.{Entry, entry, tells_read, tells_lost}
-use Rattle.account.specs.Runs.{walked, joining, recorded}
+use Rattle.account.specs.Laws.{Call, step_of, reads_data, may_lose}
 
 -- held: the received bytes of Data In in the chip, oldest first
 abbrev pub held : View → List ℕ
 held v = in_data_in v.latched v.received
+
+-- a call, what Command held when it came, and its answer
+pub record Entry : Type 0 where
+  pub call : Call
+  pub command : ℕ
+  pub answer : Answer
+
+abbrev pub entry : Call → ℕ → Answer → Entry
+entry c k a = record { call = c; command = k; answer = a }
+
+-- an answer that tells a Data In byte read: the value of a read of Data or of a DMA read, with phase Data In
+abbrev pub tells_read : Entry → Bool
+tells_read e = e.answer.phase == 4 && (e.answer.refusal == 0 && reads_data e.call)
+
+-- an answer that tells Data In bytes lost
+abbrev pub tells_lost : Entry → Bool
+tells_lost e = e.answer.phase == 4 && nat_lt 0 e.answer.lost
 
 -- the bytes that an answer accounts for: exactly the value of a read, exactly as many as a loss says, and none for any
 -- other; only a call that may lose bytes tells of a loss
@@ -38,31 +50,18 @@ pub record Fates {S : Type 0} (m : Meaning S) (up : List ℕ) (es : List Entry) 
   pub all : up ≡ gone ++ (held l.chip ++ m.waiting l.station)
 
 -- All that can happen to a string: what was put up, the calls with their answers, and the string as it is now. It is made
--- over any station; then calls and runs come, in any order and number and with any addresses, values and lists, refused
--- ones among them. A run counts as its calls, and one that is refused as no call.
+-- over any station; then calls come, in any order and number and with any addresses and values, refused ones among them.
 pub data History {S : Type 0} (m : Meaning S) : List ℕ → List Entry → Line S → Type 0 where
   begun : (i : ℕ) (s : S) → History m (m.waiting s) [] (line (made_new i) s)
   called : (up : List ℕ) (es : List Entry) (l : Line S) → History m up es l → (c : Call) → History m (up ++ (step_of m c l).up) (es ++ (entry c l.chip.registers.command (step_of m c l).answer ∷ [])) (step_of m c l).left
-  ran : (up : List ℕ) (es : List Entry) (l : Line S) → History m up es l → (calls : List Row) → History m (up ++ joining m calls l) (es ++ recorded m calls l) (walked m calls l)
-  not_ran : (up : List ℕ) (es : List Entry) (l : Line S) → History m up es l → (calls : List Row) → History m up es l
 
 -- promise one, over all histories
 abbrev pub EveryFate : {S : Type 0} → Meaning S → Type 0
 EveryFate {S = S} m = (up : List ℕ) (es : List Entry) (l : Line S) → History m up es l → Fates m up es l
 
--- the account of a string: how it came about, and the fate of every byte up to now
-pub record Account {S : Type 0} (m : Meaning S) (up : List ℕ) (es : List Entry) (l : Line S) : Type 0 where
-  pub history : History m up es l
-  pub fates : Fates m up es l
-
 -- whatever was put up and answered before, the law goes on over this call
 abbrev pub GoesOn : {S : Type 0} → Meaning S → Call → Line S → Answer → Line S → Type 0
-GoesOn m c l a l' = (up : List ℕ) (es : List Entry) → History m up es l → Account m (up ++ (step_of m c l).up) (es ++ (entry c l.chip.registers.command a ∷ [])) l'
-
--- and over a run: it counts as its calls, and refused as none
-abbrev pub RunGoesOn : {S : Type 0} → Meaning S → List Row → Line S → Line S → Result Ran RunRefusal → Type 0
-RunGoesOn m cs l l' (Ok t) = (up : List ℕ) (es : List Entry) → History m up es l → Account m (up ++ joining m cs l) (es ++ recorded m cs l) l'
-RunGoesOn m cs l l' (Err e) = (up : List ℕ) (es : List Entry) → History m up es l → Account m up es l'
+GoesOn m c l a l' = (up : List ℕ) (es : List Entry) → History m up es l → Fates m (up ++ (step_of m c l).up) (es ++ (entry c l.chip.registers.command a ∷ [])) l'
 
 -- the record: all Data In bytes read, in the order of the answers
 unfoldable pub record_of : List Entry → List ℕ

@@ -3,13 +3,13 @@ use Rattle.std.specs.Prelude.{◌≡◌, ℕ, Bool, true, false, cond, ◌&&◌,
 use Rattle.bus.specs.Meaning.{Meaning}
 use Rattle.registers.specs.declared.answer.Answer.{Answer}
 use Rattle.registers.specs.Commands.{command_of}
-use Rattle.registers.specs.Registers.{register_at, is_data}
+use Rattle.registers.specs.Registers.{register_at}
 use Rattle.registers.specs.States.{is_disabled}
 use Rattle.chip.specs.Outcomes.{lines_of, quiet, is_pad}
 use Rattle.chip.specs.Views.{View}
 use Rattle.account.specs.Lines.{Line}
-use Rattle.account.specs.Steps.{Step, step, read_step, write_step, dma_read_step, dma_write_step, tick_step, turn_step, reset_step}
-use Rattle.account.specs.RefusalTable.{first, is_command, discards, read_table, write_table, dma_read_table, dma_write_table, clock_table}
+use Rattle.account.specs.Steps.{Step, read_step, write_step, dma_read_step, dma_write_step, tick_step, turn_step, reset_step}
+use Rattle.account.specs.RefusalTable.{first, is_data, is_command, discards, read_table, write_table, dma_read_table, dma_write_table, clock_table}
 
 pub data Call : Type 0 where
   read : ℕ → Call
@@ -19,12 +19,6 @@ pub data Call : Type 0 where
   tick : Call
   turn : Call
   reset : Call
-  -- a kind that there is not
-  unknown : Call
-
--- an answer that tells a refusal and the lines, and nothing else
-abbrev pub bare : ℕ → View → Answer
-bare n v = record { refusal = n; value = 0; lines = lines_of v; cable = 0; byte = 0; phase = 0; lost = 0 }
 
 abbrev pub step_of : {S : Type 0} → Meaning S → Call → Line S → Step S
 step_of m (read a) l = read_step m a l
@@ -34,7 +28,6 @@ step_of m (dma_write x) l = dma_write_step m x l
 step_of m tick l = tick_step m l
 step_of m turn l = turn_step m l
 step_of m reset l = reset_step m l
-step_of m unknown l = step (bare 9 l.chip) l.chip l.station []
 
 -- the number with which a call is refused, by the table
 abbrev pub refusal_of : Call → View → ℕ
@@ -45,7 +38,10 @@ refusal_of (dma_write x) v = first (dma_write_table v)
 refusal_of tick v = first (clock_table v)
 refusal_of turn v = first (clock_table v)
 refusal_of reset v = 0
-refusal_of unknown v = 9
+
+-- an answer that tells a refusal and the lines, and nothing else
+abbrev pub bare : ℕ → View → Answer
+bare n v = record { refusal = n; value = 0; lines = lines_of v; cable = 0; byte = 0; phase = 0; lost = 0 }
 
 -- calls that read a byte of data
 abbrev pub reads_data : Call → Bool
@@ -56,7 +52,6 @@ reads_data (dma_write x) = false
 reads_data tick = false
 reads_data turn = false
 reads_data reset = false
-reads_data unknown = false
 
 -- The calls at which bytes can be lost: the reset call, three commands (`discards`), and a turn under Transfer Pad. k is
 -- what Command held.
@@ -68,7 +63,6 @@ may_lose (dma_write x) k = false
 may_lose tick k = false
 may_lose turn k = is_pad k
 may_lose reset k = true
-may_lose unknown k = false
 
 -- the byte that came in on the cable and was not lost
 abbrev pub came_in : Answer → List ℕ

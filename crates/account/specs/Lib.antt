@@ -3,7 +3,7 @@ pub mod Steps
 pub mod RefusalTable
 pub mod Laws
 pub mod Sound
-pub mod Entries
-pub mod Runs
 pub mod Fates
+pub mod Runs
+pub mod Accounts
 pub mod Alike

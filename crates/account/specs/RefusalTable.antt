@@ -7,7 +7,7 @@ use Rattle.registers.specs.declared.register.Register.TheVariants.{Data, Command
 use Rattle.registers.specs.declared.state.State.{State}
 use Rattle.registers.specs.declared.state.State.TheVariants.{Idle, Arbitrating, Selecting, Waiting, Asked, Transferring, Disabled}
 use Rattle.registers.specs.Commands.{command_of}
-use Rattle.registers.specs.Registers.{register_at, is_data}
+use Rattle.registers.specs.Registers.{register_at}
 use Rattle.registers.specs.States.{is_busy, is_disabled}
 use Rattle.chip.specs.Outcomes.{in_dma, wants_byte, is_empty}
 use Rattle.chip.specs.Reads.{is_chip_reset}
@@ -25,6 +25,22 @@ row b n = record { holds = b; number = n }
 abbrev pub first : List Row → ℕ
 first [] = 0
 first (r ∷ rs) = cond r.holds r.number (first rs)
+
+-- the register Data
+abbrev pub is_data : Register → Bool
+is_data Data = true
+is_data CommandRegister = false
+is_data Control = false
+is_data DestinationId = false
+is_data AuxiliaryStatus = false
+is_data Id = false
+is_data Interrupt = false
+is_data SourceId = false
+is_data DiagnosticStatus = false
+is_data CounterHigh = false
+is_data CounterMiddle = false
+is_data CounterLow = false
+is_data Missing = false
 
 -- there is no register
 abbrev pub is_missing : Register → Bool

@@ -1,47 +1,66 @@
 -- What a list of calls answers and leaves: the calls in turn.
-use Rattle.std.specs.Prelude.{◌≡◌, ℕ, zero, suc, ◌+◌, ◌<◌, ◌≤◌, ◌⊎◌, List, [], ◌∷◌, ◌++◌, length, drop, Ok, Err, Result}
+use Rattle.std.specs.Prelude.{◌≡◌, ℕ, zero, suc, ◌+◌, ◌<◌, ◌≤◌, Bool, false, ◌⊎◌, List, [], ◌∷◌, ◌++◌, length, drop, Some, None, Ok, Err, Option, Result}
 use Rattle.bus.specs.Meaning.{Meaning}
 use Rattle.registers.specs.declared.answer.Answer.{Answer}
 use Rattle.registers.specs.declared.call.Call.{Call as Row}
 use Rattle.registers.specs.declared.call.Ran.{Ran}
 use Rattle.registers.specs.declared.call.RunRefusal.{RunRefusal}
-use Rattle.account.specs.Entries.{Entry, entry}
-use Rattle.account.specs.Laws.{Call, step_of}
-use Rattle.account.specs.Laws.Call.{read, write, dma_read, dma_write, tick, turn, reset, unknown}
+use Rattle.account.specs.Fates.{Entry, entry}
+use Rattle.account.specs.Laws.{Call, bare, reads_data, step_of}
+use Rattle.account.specs.Laws.Call.{read, write, dma_read, dma_write, tick, turn, reset}
 use Rattle.account.specs.Lines.{Line}
+use Rattle.account.specs.Steps.{Step, step}
 
--- the call that three numbers name
-abbrev pub named : ℕ → ℕ → ℕ → Call
-named zero a x = read a
-named (suc zero) a x = write a x
-named (suc (suc zero)) a x = dma_read
-named (suc (suc (suc zero))) a x = dma_write x
-named (suc (suc (suc (suc zero)))) a x = tick
-named (suc (suc (suc (suc (suc zero))))) a x = turn
-named (suc (suc (suc (suc (suc (suc zero)))))) a x = reset
-named (suc (suc (suc (suc (suc (suc (suc k))))))) a x = unknown
+-- the call that three numbers name, if there is one of that kind
+abbrev pub named : ℕ → ℕ → ℕ → Option Call
+named zero a x = Some (read a)
+named (suc zero) a x = Some (write a x)
+named (suc (suc zero)) a x = Some dma_read
+named (suc (suc (suc zero))) a x = Some (dma_write x)
+named (suc (suc (suc (suc zero)))) a x = Some tick
+named (suc (suc (suc (suc (suc zero))))) a x = Some turn
+named (suc (suc (suc (suc (suc (suc zero)))))) a x = Some reset
+named (suc (suc (suc (suc (suc (suc (suc k))))))) a x = None
 
-abbrev pub call_of : Row → Call
+abbrev pub call_of : Row → Option Call
 call_of r = named r.kind r.address r.value
+
+-- A call of a list. A kind that there is not is no call: it is answered with 9 and the lines, and changes nothing.
+abbrev pub listed_step : {S : Type 0} → Meaning S → Option Call → Line S → Step S
+listed_step m (Some c) l = step_of m c l
+listed_step m None l = step (bare 9 l.chip) l.chip l.station []
+
+abbrev pub row_step : {S : Type 0} → Meaning S → Row → Line S → Step S
+row_step m r l = listed_step m (call_of r) l
+
+-- what the account notes of it: the call, what Command held, and the answer
+abbrev pub noted : Option Call → ℕ → Answer → List Entry
+noted (Some c) k a = entry c k a ∷ []
+noted None k a = []
+
+-- whether it reads a byte of data
+abbrev pub listed_reads : Option Call → Bool
+listed_reads (Some c) = reads_data c
+listed_reads None = false
 
 -- the string after a list of calls
 unfoldable pub walked : {S : Type 0} → Meaning S → List Row → Line S → Line S
 walked m [] l = l
-walked m (c ∷ cs) l = walked m cs (step_of m (call_of c) l).left
+walked m (c ∷ cs) l = walked m cs (row_step m c l).left
 
 -- the answers to a list of calls
 unfoldable pub answered : {S : Type 0} → Meaning S → List Row → Line S → List Answer
 answered m [] l = []
-answered m (c ∷ cs) l = (step_of m (call_of c) l).answer ∷ answered m cs (step_of m (call_of c) l).left
+answered m (c ∷ cs) l = (row_step m c l).answer ∷ answered m cs (row_step m c l).left
 
 -- what joined in a list of calls, and the calls with their answers
 unfoldable pub joining : {S : Type 0} → Meaning S → List Row → Line S → List ℕ
 joining m [] l = []
-joining m (c ∷ cs) l = (step_of m (call_of c) l).up ++ joining m cs (step_of m (call_of c) l).left
+joining m (c ∷ cs) l = (row_step m c l).up ++ joining m cs (row_step m c l).left
 
 unfoldable pub recorded : {S : Type 0} → Meaning S → List Row → Line S → List Entry
 recorded m [] l = []
-recorded m (c ∷ cs) l = entry (call_of c) l.chip.registers.command (step_of m (call_of c) l).answer ∷ recorded m cs (step_of m (call_of c) l).left
+recorded m (c ∷ cs) l = noted (call_of c) l.chip.registers.command (row_step m c l).answer ++ recorded m cs (row_step m c l).left
 
 -- the sum of what answers say was lost
 unfoldable pub lost_in : List Answer → ℕ

@@ -108,7 +108,9 @@ keeps_byte v b q = took (counted_down (kept v b q)) b 0
 
 -- an input byte: Pad loses it, Info keeps it if there is a place
 unfoldable pub takes : View → ℕ → Parity → Outcome
-takes v b q = cond (is_pad v.registers.command) (discards_byte v b) (cond (nat_lt (length v.received) places) (keeps_byte v b q) (silent v))
+takes v b q =
+    cond (is_pad v.registers.command) (took (counted_down v) b 1)
+    (cond (nat_lt (length v.received) places) (took (counted_down (kept v b q)) b 0) (silent v))
 
 -- Info uses the written byte up, Pad keeps it
 abbrev pub used_up : View → View
@@ -124,7 +126,9 @@ tells_byte v x = gives (ended_message v) (Tell x.byte) (moved 2 x.byte (phase_nu
 
 abbrev pub sends_byte : View → Option Written → Outcome
 sends_byte v None = silent v
-sends_byte v (Some x) = tells_byte (counted_down (used_up v)) x
+sends_byte v (Some x) =
+    gives (ended_message (counted_down (used_up v))) (Tell x.byte)
+    (moved 2 x.byte (phase_number x.phase) 0 (ended_message (counted_down (used_up v))))
 
 -- the written byte is sent, where there is one
 unfoldable pub sends : View → Outcome

@@ -1,5 +1,5 @@
 -- The registers of the chip, by their addresses.
-use Rattle.std.specs.Prelude.{ℕ, Bool, true, false, cond, ◌==◌}
+use Rattle.std.specs.Prelude.{ℕ, cond, ◌==◌}
 use Rattle.registers.specs.declared.register.Register.{Register}
 use Rattle.registers.specs.declared.register.Register.TheVariants.{Data, Command, Control, DestinationId, AuxiliaryStatus, Id, Interrupt, SourceId, DiagnosticStatus, CounterHigh, CounterMiddle, CounterLow, Missing}
 
@@ -13,19 +13,3 @@ register_table a =
 -- the register at an address
 unfoldable pub register_at : ℕ → Register
 register_at a = register_table a
-
--- the register Data
-abbrev pub is_data : Register → Bool
-is_data Data = true
-is_data Command = false
-is_data Control = false
-is_data DestinationId = false
-is_data AuxiliaryStatus = false
-is_data Id = false
-is_data Interrupt = false
-is_data SourceId = false
-is_data DiagnosticStatus = false
-is_data CounterHigh = false
-is_data CounterMiddle = false
-is_data CounterLow = false
-is_data Missing = false

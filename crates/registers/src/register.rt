@@ -1,6 +1,6 @@
 // The registers of the chip, by their addresses.
-ghost use Rattle.std.specs.Prelude.{◌≡◌};
-ghost use Rattle.registers.specs.Registers.{register_table, register_at, is_data};
+ghost use Rattle.std.specs.Prelude.{◌≡◌, ◌↔◌, IsTrue};
+ghost use Rattle.registers.specs.Registers.{register_table, register_at};
 
 #[derive(Clone, Copy)]
 pub enum Register {
@@ -29,7 +29,7 @@ impl Register {
     }
 
     pub fn is_data(self) -> bool
-        ensures { result ≡ is_data self }
+        ensures { IsTrue result ↔ (self ≡ Register.Data) }
     {
         match self {
             Register::Data => true,

@@ -4,11 +4,12 @@
 ghost use Rattle.std.specs.Prelude.{◌≡◌, [], ◌+◌, ◌^◌, ◌<◌, ◌≤◌, length, set};
 ghost use Rattle.chip.specs.Model.{model};
 ghost use Rattle.chip.specs.Outcomes.{made_new};
-ghost use Rattle.account.specs.Fates.{held, EveryFate, Account, GoesOn, RunGoesOn};
-ghost use Rattle.account.specs.Laws.{Laws, step_of};
+ghost use Rattle.account.specs.Accounts.{Account, KeepsAccount, RunGoesOn};
+ghost use Rattle.account.specs.Fates.{held, EveryFate, GoesOn};
+ghost use Rattle.account.specs.Laws.{Laws};
 ghost use Rattle.account.specs.Laws.Call.{read as a_read, write as a_write, dma_read as a_dma_read, dma_write as a_dma_write, tick as a_tick, turn as a_turn, reset as a_reset};
 ghost use Rattle.account.specs.Lines.{line};
-ghost use Rattle.account.specs.Runs.{call_of, RunSays};
+ghost use Rattle.account.specs.Runs.{row_step, RunSays};
 ghost use Rattle.scsi_string.specs.Strings.{values};
 ghost use Rattle.account.specs.Steps.{heard, chosen_step, read_step, write_step, dma_read_step, dma_write_step, tick_step, turn_step, reset_step};
 
@@ -101,6 +102,7 @@ impl<S: Station> ScsiString<S> {
         ensures answer { result ≡ (read_step S.meaning address (values self.old)).answer }
         ensures after { values self.new ≡ (read_step S.meaning address (values self.old)).left }
         ensures fates { GoesOn S.meaning (a_read address) (values self.old) result (values self.new) }
+        ensures account { KeepsAccount S.meaning (a_read address) (values self.old) result (values self.new) }
     {
         self.read_step(address)
     }
@@ -110,6 +112,7 @@ impl<S: Station> ScsiString<S> {
         ensures answer { result ≡ (write_step S.meaning address value (values self.old)).answer }
         ensures after { values self.new ≡ (write_step S.meaning address value (values self.old)).left }
         ensures fates { GoesOn S.meaning (a_write address value) (values self.old) result (values self.new) }
+        ensures account { KeepsAccount S.meaning (a_write address value) (values self.old) result (values self.new) }
     {
         self.write_step(address, value)
     }
@@ -119,6 +122,7 @@ impl<S: Station> ScsiString<S> {
         ensures answer { result ≡ (dma_read_step S.meaning (values self.old)).answer }
         ensures after { values self.new ≡ (dma_read_step S.meaning (values self.old)).left }
         ensures fates { GoesOn S.meaning (a_dma_read) (values self.old) result (values self.new) }
+        ensures account { KeepsAccount S.meaning (a_dma_read) (values self.old) result (values self.new) }
     {
         self.dma_read_step()
     }
@@ -128,6 +132,7 @@ impl<S: Station> ScsiString<S> {
         ensures answer { result ≡ (dma_write_step S.meaning value (values self.old)).answer }
         ensures after { values self.new ≡ (dma_write_step S.meaning value (values self.old)).left }
         ensures fates { GoesOn S.meaning (a_dma_write value) (values self.old) result (values self.new) }
+        ensures account { KeepsAccount S.meaning (a_dma_write value) (values self.old) result (values self.new) }
     {
         self.dma_write_step(value)
     }
@@ -137,6 +142,7 @@ impl<S: Station> ScsiString<S> {
         ensures answer { result ≡ (tick_step S.meaning (values self.old)).answer }
         ensures after { values self.new ≡ (tick_step S.meaning (values self.old)).left }
         ensures fates { GoesOn S.meaning (a_tick) (values self.old) result (values self.new) }
+        ensures account { KeepsAccount S.meaning (a_tick) (values self.old) result (values self.new) }
     {
         self.tick_step()
     }
@@ -146,6 +152,7 @@ impl<S: Station> ScsiString<S> {
         ensures answer { result ≡ (turn_step S.meaning (values self.old)).answer }
         ensures after { values self.new ≡ (turn_step S.meaning (values self.old)).left }
         ensures fates { GoesOn S.meaning (a_turn) (values self.old) result (values self.new) }
+        ensures account { KeepsAccount S.meaning (a_turn) (values self.old) result (values self.new) }
     {
         self.turn_step()
     }
@@ -155,6 +162,7 @@ impl<S: Station> ScsiString<S> {
         ensures answer { result ≡ (reset_step S.meaning (values self.old)).answer }
         ensures after { values self.new ≡ (reset_step S.meaning (values self.old)).left }
         ensures fates { GoesOn S.meaning (a_reset) (values self.old) result (values self.new) }
+        ensures account { KeepsAccount S.meaning (a_reset) (values self.old) result (values self.new) }
     {
         self.reset_step()
     }
@@ -187,9 +195,9 @@ impl<S: Station> ScsiString<S> {
     // Makes a call, puts its answer at a place, and adds up the bytes lost.
     fn fill(&mut self, answers: &mut [Answer], at: usize, call: Call, lost: u32) -> u32
         requires { (at < length answers.old) × (lost < 2 ^ 31) }
-        ensures after { values self.new ≡ (step_of S.meaning (call_of call) (values self.old)).left }
-        ensures filled { answers.new ≡ set answers.old at (step_of S.meaning (call_of call) (values self.old)).answer }
-        ensures lost { result ≡ lost + (step_of S.meaning (call_of call) (values self.old)).answer.lost }
+        ensures after { values self.new ≡ (row_step S.meaning call (values self.old)).left }
+        ensures filled { answers.new ≡ set answers.old at (row_step S.meaning call (values self.old)).answer }
+        ensures lost { result ≡ lost + (row_step S.meaning call (values self.old)).answer.lost }
         ensures bound { result ≤ lost + 255 }
     {
         let answer = self.make(call);
@@ -199,8 +207,8 @@ impl<S: Station> ScsiString<S> {
 
     // One call of a list; a kind that there is not is answered with 9.
     fn make(&mut self, call: Call) -> Answer
-        ensures answer { result ≡ (step_of S.meaning (call_of call) (values self.old)).answer }
-        ensures after { values self.new ≡ (step_of S.meaning (call_of call) (values self.old)).left }
+        ensures answer { result ≡ (row_step S.meaning call (values self.old)).answer }
+        ensures after { values self.new ≡ (row_step S.meaning call (values self.old)).left }
     {
         match call.kind {
             0 => self.read_step(call.address),

@@ -1,4 +1,5 @@
-use Rattle.account.proofs.Account.{every_fate, opens}
+use Rattle.account.proofs.Account.{every_fate}
+use Rattle.account.proofs.Accounting.{opens}
 use Rattle.account.proofs.Keeping.{laws}
 use Rattle.scsi_string.proofs.ScsiString.new.Goals as goal
 

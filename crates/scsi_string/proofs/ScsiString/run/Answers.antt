@@ -1,4 +1,4 @@
-use Rattle.account.proofs.Account.{run_goes_on}
+use Rattle.account.proofs.Accounting.{run_goes_on}
 use Rattle.scsi_string.proofs.ScsiString.run.Goals as goal
 
 pub returns : goal.returns
