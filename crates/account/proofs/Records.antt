@@ -36,7 +36,7 @@ all_read es bytes (then fs before e share g s) z =
     ap (λ r. r ++ share) (all_read fs before g first) ∙ ap (λ r. record_of fs ++ r) (whole e share (tells_read e) (tells_lost e) refl refl s last) ∙ sym (record_snoc fs e)
 
 -- a complete record is what was put up
-complete_record : {S : Type 0} (m : Meaning S) (up : List ℕ) (es : List Entry) (l : Line S) → Fates m up es l → Complete m es l → up ≡ record_of es
+pub complete_record : {S : Type 0} (m : Meaning S) (up : List ℕ) (es : List Entry) (l : Line S) → Fates m up es l → Complete m es l → up ≡ record_of es
 complete_record m up es l f b =
     f.all ∙ ap (λ r. f.gone ++ (r ++ m.waiting l.station)) b.holds ∙ ap (λ r. f.gone ++ r) b.waits ∙ append-nil f.gone ∙ all_read es f.gone f.told b.lost
 

@@ -9,7 +9,7 @@ use Rattle.chip.specs.Outcomes.{made_new}
 use Rattle.account.specs.Fates.History.{begun}
 use Rattle.account.specs.Lines.{Line, line}
 use Rattle.account.specs.Runs.{RunSays}
-use Rattle.account.proofs.Account.{run_goes_on}
+use Rattle.account.proofs.Accounting.{run_goes_on}
 use Rattle.fates.specs.Trials.{TrialSays}
 
 module _ {S : Type 0} (m : Meaning S) (law : Lawful m) (i : ℕ) (s : S) (calls : List Row) where

@@ -6,14 +6,14 @@ use Rattle.registers.specs.declared.call.Call.{Call as Row}
 use Rattle.registers.specs.declared.call.Ran.{Ran}
 use Rattle.registers.specs.declared.call.RunRefusal.{RunRefusal}
 use Rattle.chip.specs.Outcomes.{made_new}
-use Rattle.account.specs.Fates.{Account, held}
-use Rattle.account.specs.Laws.{reads_data}
+use Rattle.account.specs.Accounts.{Account}
+use Rattle.account.specs.Fates.{held}
 use Rattle.account.specs.Lines.{Line, line}
-use Rattle.account.specs.Runs.{call_of, joining, recorded, RanAs, NotRun}
+use Rattle.account.specs.Runs.{call_of, listed_reads, joining, recorded, RanAs, NotRun}
 
 -- whether an answer tells a Data In byte read
 abbrev pub reads_byte : Row → Answer → Bool
-reads_byte c a = a.phase == 4 && (a.refusal == 0 && reads_data (call_of c))
+reads_byte c a = a.phase == 4 && (a.refusal == 0 && listed_reads (call_of c))
 
 -- the record: the Data In bytes read, from the calls and their answers
 abbrev pub record_in : List Row → List Answer → List ℕ

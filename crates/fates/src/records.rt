@@ -1,7 +1,6 @@
 // Records: the Data In bytes that the host read, from its calls and their answers.
 ghost use Rattle.std.specs.Prelude.{◌≡◌};
-ghost use Rattle.account.specs.Laws.{reads_data};
-ghost use Rattle.account.specs.Runs.{call_of};
+ghost use Rattle.account.specs.Runs.{call_of, listed_reads};
 ghost use Rattle.fates.specs.Trials.{reads_byte, record_in, same, NextRead};
 
 use registers::answer::Answer;
@@ -10,7 +9,7 @@ use registers::register::Register;
 
 // A read of Data, or a DMA read.
 fn reads_data(call: Call) -> bool
-    ensures { result ≡ reads_data (call_of call) }
+    ensures { result ≡ listed_reads (call_of call) }
 {
     match call.kind {
         0 => Register::at(call.address).is_data(),
