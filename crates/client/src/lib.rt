@@ -3,7 +3,7 @@
 #![tactic(auto)]
 
 ghost use Rattle.std.specs.Prelude.{[], ◌∷◌, ◌++◌};
-ghost use Rattle.account.specs.Fates.{GoesOn};
+ghost use Rattle.account.specs.Accounts.{KeepsAccount};
 ghost use Rattle.account.specs.Laws.Call.{read as a_read, write as a_write, dma_read as a_dma_read, dma_write as a_dma_write, tick as a_tick, turn as a_turn, reset as a_reset};
 ghost use Rattle.scsi_string.specs.Strings.{values};
 ghost use Rattle.client.specs.Surveys.{Kept, calls_run, answers_run};
@@ -39,7 +39,7 @@ pub struct Findings<S> {
 }
 
 fn select<S: Station>(string: &mut ScsiString<S>) -> Answer
-    ensures { GoesOn S.meaning (a_write 1 9) (values string.old) result (values string.new) }
+    ensures { KeepsAccount S.meaning (a_write 1 9) (values string.old) result (values string.new) }
 {
     string.write(COMMAND, SELECT)
 }

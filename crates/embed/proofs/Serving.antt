@@ -8,7 +8,7 @@ use Rattle.registers.specs.declared.call.RunRefusal.{RunRefusal}
 use Rattle.account.specs.Alike.{SeenAs, seen}
 use Rattle.account.specs.Lines.{Line}
 use Rattle.account.specs.Runs.{walked, lost_in, RanAs, NotRun, RunSays}
-use Rattle.account.proofs.Account.{run_goes_on}
+use Rattle.account.proofs.Accounting.{run_goes_on}
 use Rattle.account.proofs.Alike.{answer_alike, stay_alike, walked_keeps}
 use Rattle.breaker.specs.declared.Breaker.{Breaker}
 use Rattle.breaker.specs.Breakers.{is_through, standing, breaker_meaning}

@@ -6,7 +6,7 @@ use Rattle.registers.specs.declared.call.Call.{Call as Row}
 use Rattle.registers.specs.declared.call.Ran.{Ran}
 use Rattle.registers.specs.declared.call.RunRefusal.{RunRefusal}
 use Rattle.chip.specs.Model.{model}
-use Rattle.account.specs.Fates.{RunGoesOn}
+use Rattle.account.specs.Accounts.{RunGoesOn}
 use Rattle.account.specs.Lines.{Line}
 use Rattle.account.specs.Runs.{RunSays}
 use Rattle.breaker.specs.declared.Breaker.{Breaker}

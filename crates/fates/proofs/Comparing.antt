@@ -12,7 +12,7 @@ use Rattle.chip.specs.Outcomes.{made_new}
 use Rattle.account.specs.Laws.{Call, step_of}
 use Rattle.account.specs.Runs.{call_of, listed_step, row_step, noted, listed_reads, answered, recorded}
 use Rattle.account.proofs.Records.{complete_record}
-use Rattle.fates.specs.Trials.{reads_byte, record_in, lost_data, same, put_up, Trial, TrialSays, Whole, Compares}
+use Rattle.fates.specs.Trials.{record_in, lost_data, same, put_up, Trial, TrialSays, Whole, Compares}
 
 -- whether an answer tells a Data In byte read, and whether it tells a loss
 abbrev tells : Option Call → Answer → Bool
