@@ -5,7 +5,6 @@ mod host;
 mod names;
 mod order;
 
-use anyhow::anyhow;
 use breaker::Breaker;
 use bus::address::StationAddress;
 use drive::drive::Drive;
@@ -39,37 +38,18 @@ fn fetch<W: Write>(
     Ok(())
 }
 
-// The bytes of a file, or an error that names it.
-fn read_image(rt: &HostRuntime, path: &str) -> anyhow::Result<Vec<u8>> {
-    match fs::read(rt, path) {
-        Ok(image) => Ok(image),
-        Err(fault) => Err(anyhow!(format!(in rt.alloc(); "{path}: {fault}")?)),
-    }
-}
-
-fn fetch_each_way<W: Write>(
-    rt: &HostRuntime,
-    out: &mut W,
-    image: &[u8],
-    order: &Order,
-) -> anyhow::Result<()> {
-    if order.pio {
-        fetch(rt, out, image, order, Way::Pio)?;
-    }
-    if order.dma {
-        fetch(rt, out, image, order, Way::Dma)?;
-    }
-    Ok(())
-}
-
-// What was traced before an error is printed all the same.
 fn run(rt: &HostRuntime) -> anyhow::Result<()> {
     let order = order_of(rt.alloc(), env::args(rt)?)?;
-    let image = read_image(rt, order.image.as_str())?;
+    let image = fs::read(rt, order.image.as_str())?;
     let mut out = BufWriter::new(rt.alloc(), rt.stdout())?;
-    let result = fetch_each_way(rt, &mut out, image.as_slice(), &order);
+    if order.pio {
+        fetch(rt, &mut out, image.as_slice(), &order, Way::Pio)?;
+    }
+    if order.dma {
+        fetch(rt, &mut out, image.as_slice(), &order, Way::Dma)?;
+    }
     out.flush()?;
-    result
+    Ok(())
 }
 
 // An error is told on standard error, and the status is 1.
