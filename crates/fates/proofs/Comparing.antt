@@ -1,5 +1,5 @@
 -- Two runs with complete records tell their stations apart.
-use Rattle.std.proofs.Common.{◌≡◌, ℕ, ◌+◌, Bool, true, cond, ◌&&◌, eqb, ltb, List, [], ◌∷◌, ◌++◌, length, drop, Some, None, Option, Ok, Err, Result, sym, refl, ap, ◌∙◌, zero-add}
+use Rattle.std.proofs.Common.{◌≡◌, ℕ, ◌+◌, Bool, true, cond, eqb, List, [], ◌∷◌, ◌++◌, length, drop, Some, None, Option, Ok, Err, Result, sym, refl, ap, ◌∙◌, zero-add}
 use Rattle.std.proofs.lemmas.Bool.{and_parts, and_from, eqb-true, eq-eqb}
 use Rattle.bus.specs.Meaning.{Meaning}
 use Rattle.registers.specs.declared.answer.Answer.{Answer}
@@ -10,26 +10,19 @@ use Rattle.account.specs.Fates.{Entry, record_of, lost_of}
 use Rattle.account.specs.Lines.{Line, line}
 use Rattle.chip.specs.Outcomes.{made_new}
 use Rattle.account.specs.Laws.{Call, step_of}
-use Rattle.account.specs.Runs.{call_of, listed_step, row_step, noted, listed_reads, answered, recorded}
+use Rattle.account.specs.Runs.{call_of, listed_step, row_step, noted, answered, recorded}
 use Rattle.account.proofs.Records.{complete_record}
-use Rattle.fates.specs.Trials.{record_in, lost_data, same, put_up, Trial, TrialSays, Whole, Compares}
-
--- whether an answer tells a Data In byte read, and whether it tells a loss
-abbrev tells : Option Call → Answer → Bool
-tells o a = eqb a.phase 4 && (eqb a.refusal 0 && listed_reads o)
-
-abbrev loses : Answer → Bool
-loses a = eqb a.phase 4 && ltb 0 a.lost
+use Rattle.fates.specs.Trials.{answer_reads, answer_loses, record_in, lost_data, same, put_up, Trial, TrialSays, Whole, Compares}
 
 -- what a call of a list and its answer tell, the entries tell too, if the rest does
-byte_noted : {S : Type 0} (m : Meaning S) (o : Option Call) (l : Line S) (k : ℕ) (bytes : List ℕ) (es : List Entry) → bytes ≡ record_of es → cond (tells o (listed_step m o l).answer) ((listed_step m o l).answer.value ∷ []) [] ++ bytes ≡ record_of (noted o k (listed_step m o l).answer ++ es)
+byte_noted : {S : Type 0} (m : Meaning S) (o : Option Call) (l : Line S) (k : ℕ) (bytes : List ℕ) (es : List Entry) → bytes ≡ record_of es → cond (answer_reads o (listed_step m o l).answer) ((listed_step m o l).answer.value ∷ []) [] ++ bytes ≡ record_of (noted o k (listed_step m o l).answer ++ es)
 unfolding record_of
-byte_noted m (Some c) l k bytes es h = ap (λ r. cond (tells (Some c) (step_of m c l).answer) ((step_of m c l).answer.value ∷ []) [] ++ r) h
+byte_noted m (Some c) l k bytes es h = ap (λ r. cond (answer_reads (Some c) (step_of m c l).answer) ((step_of m c l).answer.value ∷ []) [] ++ r) h
 byte_noted m None l k bytes es h = h
 
-loss_noted : {S : Type 0} (m : Meaning S) (o : Option Call) (l : Line S) (k n : ℕ) (es : List Entry) → n ≡ lost_of es → cond (loses (listed_step m o l).answer) (listed_step m o l).answer.lost 0 + n ≡ lost_of (noted o k (listed_step m o l).answer ++ es)
+loss_noted : {S : Type 0} (m : Meaning S) (o : Option Call) (l : Line S) (k n : ℕ) (es : List Entry) → n ≡ lost_of es → cond (answer_loses (listed_step m o l).answer) (listed_step m o l).answer.lost 0 + n ≡ lost_of (noted o k (listed_step m o l).answer ++ es)
 unfolding lost_of
-loss_noted m (Some c) l k n es h = ap (λ r. cond (loses (step_of m c l).answer) (step_of m c l).answer.lost 0 + r) h
+loss_noted m (Some c) l k n es h = ap (λ r. cond (answer_loses (step_of m c l).answer) (step_of m c l).answer.lost 0 + r) h
 loss_noted m None l k n es h = zero-add n ∙ h
 
 -- what the calls and their answers tell is what the entries tell, whatever stands behind the answers

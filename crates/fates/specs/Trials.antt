@@ -8,12 +8,19 @@ use Rattle.registers.specs.declared.call.RunRefusal.{RunRefusal}
 use Rattle.chip.specs.Outcomes.{made_new}
 use Rattle.account.specs.Accounts.{Account}
 use Rattle.account.specs.Fates.{held}
+use Rattle.account.specs.Laws.{Call}
 use Rattle.account.specs.Lines.{Line, line}
 use Rattle.account.specs.Runs.{call_of, listed_reads, joining, recorded, RanAs, NotRun}
 
--- whether an answer tells a Data In byte read
+-- whether the answer to a call of a list tells a Data In byte read, and whether an answer tells Data In bytes lost
+abbrev pub answer_reads : Option Call → Answer → Bool
+answer_reads o a = a.phase == 4 && (a.refusal == 0 && listed_reads o)
+
+abbrev pub answer_loses : Answer → Bool
+answer_loses a = a.phase == 4 && nat_lt 0 a.lost
+
 abbrev pub reads_byte : Row → Answer → Bool
-reads_byte c a = a.phase == 4 && (a.refusal == 0 && listed_reads (call_of c))
+reads_byte c a = answer_reads (call_of c) a
 
 -- the record: the Data In bytes read, from the calls and their answers
 abbrev pub record_in : List Row → List Answer → List ℕ
@@ -25,7 +32,7 @@ record_in (c ∷ cs) (a ∷ rest) = cond (reads_byte c a) (a.value ∷ []) [] ++
 abbrev pub lost_data : List Row → List Answer → ℕ
 lost_data [] answers = 0
 lost_data (c ∷ cs) [] = 0
-lost_data (c ∷ cs) (a ∷ rest) = cond (a.phase == 4 && nat_lt 0 a.lost) a.lost 0 + lost_data cs rest
+lost_data (c ∷ cs) (a ∷ rest) = cond (answer_loses a) a.lost 0 + lost_data cs rest
 
 abbrev pub same : List ℕ → List ℕ → Bool
 same [] [] = true
