@@ -1,7 +1,9 @@
 -- Decoding an ID byte by its bits gives what the definition says: one test, computed at each address and each byte.
-use Rattle.std.proofs.Common.{◌≡◌, ℕ, zero, suc, ◌%◌, ◌<◌, Bool, true, false, ◌&&◌, eqb, ltb, Some, None, Option, unwrap_or, refl, ap, ◌∙◌, ⊎_elim, mod-eq_of_lt, arith}
+use Rattle.std.proofs.Common.{◌≡◌, ℕ, zero, suc, ◌%◌, ◌<◌, Bool, true, false, ◌&&◌, eqb, ltb, Some, None, Option, unwrap_or, refl, sym, ap, ◌∙◌, ⊎_elim, mod-eq_of_lt, arith}
 use lib.Count.{ones, count_trailing_zeros}
 use Rattle.std.proofs.lemmas.Bool.{and_parts, cases_eq, eqb-true, ltb-true}
+use Rattle.std.specs.Option.{option_map, MatchOption, IsSomeAnd}
+use Rattle.bus.specs.declared.address.StationAddress.{StationAddress}
 use Rattle.bus.specs.Ids.{station_bit, scanned, decoded}
 
 abbrev same : Option ℕ → Option ℕ → Bool
@@ -47,3 +49,10 @@ module _ (own bits : ℕ) (o : own < 8) (b : bits < 256) where
 
   pub finds : (r : Option ℕ) (bit : ℕ) → r ≡ scanned bit bits → bit ≡ station_bit own → r ≡ decoded own bits
   finds r bit e is = e ∙ ap (λ x. scanned x bits) is ∙ scans
+
+  -- the same as an address, which is made of the number that was found
+  pub names : (r : Option ℕ) (bit : ℕ) → r ≡ scanned bit bits → bit ≡ station_bit own → (o : Option StationAddress) → MatchOption r (o ≡ None) (λ n. IsSomeAnd o (λ a. a.number ≡ n % 8)) → option_map (λ a. a.number) o ≡ decoded own bits
+  names None bit e is None m = finds None bit e is
+  names None bit e is (Some a) m = cc
+  names (Some n) bit e is None m = absurd m
+  names (Some n) bit e is (Some a) m = let found = finds (Some n) bit e is in ap (λ x. Some x) (m ∙ near n (sym found)) ∙ found

@@ -1,6 +1,7 @@
 -- The eight phases: their numbers, names and directions.
-use Rattle.std.specs.Prelude.{ℕ, Bool, cond, List, [], Some, None, codes, Option, ◌==◌, nat_le}
+use Rattle.std.specs.Prelude.{◌≡◌, ℕ, ◌<◌, Bool, cond, List, [], Some, None, codes, Option, Result, MatchResult, ◌==◌, nat_le}
 use Rattle.bus.specs.declared.phase.Phase.{Phase}
+use Rattle.bus.specs.declared.phase.NoSuchPhase.{NoSuchPhase}
 use Rattle.bus.specs.declared.phase.Phase.TheVariants.{DataOut, UnspecifiedOut, Command, MessageOut, DataIn, UnspecifiedIn, Status, MessageIn}
 
 -- 4 × I/O + 2 × C/D + MSG
@@ -20,6 +21,14 @@ phase_numbered n =
     cond (n == 0) (Some DataOut) (cond (n == 1) (Some UnspecifiedOut) (cond (n == 2) (Some Command)
     (cond (n == 3) (Some MessageOut) (cond (n == 4) (Some DataIn) (cond (n == 5) (Some UnspecifiedIn)
     (cond (n == 6) (Some Status) (cond (n == 7) (Some MessageIn) None)))))))
+
+-- the number of a phase, which leads back to it
+abbrev pub PhaseNumber : Phase → ℕ → Type 0
+PhaseNumber p n = (n ≡ phase_number p) × ((n < 8) × (phase_numbered n ≡ Some p))
+
+-- what a number names: the phase that has it, or none, and then the number is handed back
+abbrev pub PhaseOf : ℕ → Result Phase NoSuchPhase → Type 0
+PhaseOf n r = MatchResult r (λ p. (phase_numbered n ≡ Some p) × ((phase_number p ≡ n) × (n < 8))) (λ e. (e.0 ≡ n) × ((phase_numbered n ≡ None) × (7 < n)))
 
 abbrev pub same_phase : Phase → Phase → Bool
 same_phase p q = phase_number p == phase_number q

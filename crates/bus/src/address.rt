@@ -5,14 +5,14 @@ ghost use Rattle.std.specs.Option.{option_map};
 ghost use Rattle.bus.specs.Ids.{station_bit, scanned, decoded};
 
 // An address on the cable, 0 to 7.
-#[derive(Clone, Copy)]
+#[derive(Clone, Copy, Debug, PartialEq, Eq)]
 pub struct StationAddress {
     number: u8,
     ghost within: { number < 8 },
 }
 
 // What stands on the data lines in a selection or a reselection: bit n is set for station n.
-#[derive(Clone, Copy)]
+#[derive(Clone, Copy, Debug, PartialEq, Eq)]
 pub struct IdByte {
     bits: u8,
 }
@@ -68,10 +68,7 @@ impl IdByte {
     pub fn decode(self, own: StationAddress) -> Option<StationAddress>
         ensures { option_map (λ a. a.number) result ≡ decoded own.number self.bits }
     {
-        match self.scan(own.encode()) {
-            Some(number) => Some(StationAddress::new(number)),
-            None => None,
-        }
+        self.scan(own.encode()).map(StationAddress::new)
     }
 
     // The same by the bits: without the own one a single bit is left.

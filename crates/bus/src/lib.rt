@@ -2,6 +2,7 @@
 #![tactic(auto)]
 
 pub mod address;
+pub mod message;
 pub mod parity;
 pub mod patient;
 pub mod phase;

@@ -1,11 +1,12 @@
 // The phases of the bus.
-ghost use Rattle.std.specs.Prelude.{◌≡◌, ◌<◌, is_some, IfSome, Some, nat_lt};
-ghost use Rattle.bus.specs.Phases.{phase_number, phase_numbered, phase_name, same_phase, is_input};
+ghost use Rattle.std.specs.Prelude.{◌≡◌, Some};
+ghost use Rattle.bus.specs.Phases.{phase_name, is_input, PhaseNumber, PhaseOf};
 
 use std::fmt;
+use thiserror::Error;
 
 // What travels, and which way: the lines I/O, C/D and MSG as one of eight cases.
-#[derive(Clone, Copy)]
+#[derive(Clone, Copy, Debug, PartialEq, Eq)]
 pub enum Phase {
     DataOut,
     UnspecifiedOut,
@@ -17,41 +18,12 @@ pub enum Phase {
     MessageIn,
 }
 
+// A number that no phase has: there are eight.
+#[derive(Clone, Copy, Debug, PartialEq, Eq, Error)]
+#[error("there is no phase {0}")]
+pub struct NoSuchPhase(pub u8);
+
 impl Phase {
-    // The number on the lines: 4 × I/O + 2 × C/D + MSG.
-    pub fn number(self) -> u8
-        ensures value { result ≡ phase_number self }
-        ensures bound { result < 8 }
-        ensures back { phase_numbered result ≡ Some self }
-    {
-        self as u8
-    }
-
-    // The phase with this number; there are eight.
-    pub fn numbered(number: u8) -> Option<Phase>
-        ensures value { result ≡ phase_numbered number }
-        ensures test { is_some result ≡ nat_lt number 8 }
-        ensures back { IfSome result (λ p. phase_number p ≡ number) }
-    {
-        match number {
-            0 => Some(Phase::DataOut),
-            1 => Some(Phase::UnspecifiedOut),
-            2 => Some(Phase::Command),
-            3 => Some(Phase::MessageOut),
-            4 => Some(Phase::DataIn),
-            5 => Some(Phase::UnspecifiedIn),
-            6 => Some(Phase::Status),
-            7 => Some(Phase::MessageIn),
-            _ => None,
-        }
-    }
-
-    pub fn is(self, other: Phase) -> bool
-        ensures { result ≡ same_phase self other }
-    {
-        self.number() == other.number()
-    }
-
     // What the phase is called.
     pub fn name(self) -> &'static str
         ensures { result.now ≡ phase_name self }
@@ -72,7 +44,39 @@ impl Phase {
     pub fn is_input(self) -> bool
         ensures { result ≡ is_input self }
     {
-        self.number() >= 4
+        matches!(
+            self,
+            Phase::DataIn | Phase::UnspecifiedIn | Phase::Status | Phase::MessageIn
+        )
+    }
+}
+
+// The number on the lines: 4 × I/O + 2 × C/D + MSG.
+impl From<Phase> for u8 {
+    ghost from_gives = { PhaseNumber };
+
+    fn from(phase: Phase) -> u8 {
+        phase as u8
+    }
+}
+
+impl TryFrom<u8> for Phase {
+    type Error = NoSuchPhase;
+
+    ghost try_from_gives = { PhaseOf };
+
+    fn try_from(number: u8) -> Result<Phase, NoSuchPhase> {
+        match number {
+            0 => Ok(Phase::DataOut),
+            1 => Ok(Phase::UnspecifiedOut),
+            2 => Ok(Phase::Command),
+            3 => Ok(Phase::MessageOut),
+            4 => Ok(Phase::DataIn),
+            5 => Ok(Phase::UnspecifiedIn),
+            6 => Ok(Phase::Status),
+            7 => Ok(Phase::MessageIn),
+            _ => Err(NoSuchPhase(number)),
+        }
     }
 }
 

@@ -3,10 +3,8 @@ use super::address::{IdByte, StationAddress};
 
 // The other station's number, 8 for none.
 fn other(bits: u8, own: u8) -> u8 {
-    match IdByte::new(bits).decode(StationAddress::new(own)) {
-        Some(address) => address.number(),
-        None => 8,
-    }
+    let named = IdByte::new(bits).decode(StationAddress::new(own));
+    named.map_or(8, StationAddress::number)
 }
 
 #[test]

@@ -9,7 +9,7 @@ use super::phase::Phase;
 use std::fmt;
 
 // A station's wish: what it does on the cable until it is chosen or told.
-#[derive(Clone, Copy)]
+#[derive(Clone, Copy, Debug, PartialEq, Eq)]
 pub enum Wish {
     // It drives no line.
     Off,
@@ -63,26 +63,20 @@ impl Wish {
     pub fn shows_data(self) -> bool
         ensures { result ≡ shows_data self }
     {
-        match self {
-            Wish::Req(phase, _, _) => phase.number() == 4,
-            _ => false,
-        }
+        matches!(self, Wish::Req(Phase::DataIn, _, _))
     }
 
     // Whether the station asks for a byte: a Req in an output phase.
     pub fn takes_byte(self) -> bool
         ensures { result ≡ takes_byte self }
     {
-        match self {
-            Wish::Req(phase, _, _) => !phase.is_input(),
-            _ => false,
-        }
+        matches!(self, Wish::Req(phase, _, _) if !phase.is_input())
     }
 
     pub fn is_off(self) -> bool
         ensures { result ≡ is_off self }
     {
-        self.kind() == 0
+        matches!(self, Wish::Off)
     }
 }
 

@@ -3,15 +3,15 @@ use Rattle.std.specs.Prelude.{ℕ, Bool, true, false, cond, ◌||◌, ◌==◌, 
 use Rattle.registers.specs.declared.command.Command.{Command}
 use Rattle.registers.specs.declared.command.Command.TheVariants.{ChipReset, Disconnect, Pause, SetAtn, MessageAccepted, ChipDisable, Unused, Select, Transfer, Invalid}
 
+-- the five code bits of a value written to Command
+abbrev pub code_of : ℕ → ℕ
+code_of x = bit_and x 31
+
 abbrev pub command_table : ℕ → Command
 command_table k =
     cond (k == 0) ChipReset (cond (k == 1) Disconnect (cond (k == 2) Pause (cond (k == 3) SetAtn
     (cond (k == 4) MessageAccepted (cond (k == 5) ChipDisable (cond (nat_lt k 8) Unused
     (cond (k == 8 || k == 9) Select (cond (k == 20 || k == 21) Transfer Invalid))))))))
-
--- the five code bits of a value written to Command
-abbrev pub code_of : ℕ → ℕ
-code_of x = bit_and x 31
 
 -- what a value written to Command orders
 unfoldable pub command_of : ℕ → Command

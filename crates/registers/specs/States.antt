@@ -1,5 +1,6 @@
 -- The states of the chip, and what they have in common.
-use Rattle.std.specs.Prelude.{ℕ, Bool, true, false, cond, Some, None, Option, ◌==◌}
+use Rattle.std.specs.Prelude.{◌≡◌, ℕ, ◌<◌, Bool, true, false, cond, Some, None, Option, Result, MatchResult, ◌==◌}
+use Rattle.registers.specs.declared.state.NoSuchState.{NoSuchState}
 use Rattle.registers.specs.declared.state.State.{State}
 use Rattle.registers.specs.declared.state.State.TheVariants.{Idle, Arbitrating, Selecting, Waiting, Asked, Transferring, Disabled}
 
@@ -17,6 +18,14 @@ abbrev pub state_numbered : ℕ → Option State
 state_numbered n =
     cond (n == 0) (Some Idle) (cond (n == 1) (Some Arbitrating) (cond (n == 2) (Some Selecting) (cond (n == 3) (Some Waiting)
     (cond (n == 4) (Some Asked) (cond (n == 5) (Some Transferring) (cond (n == 6) (Some Disabled) None))))))
+
+-- the number of a state, which leads back to it
+abbrev pub StateNumber : State → ℕ → Type 0
+StateNumber s n = (n ≡ state_number s) × (state_numbered n ≡ Some s)
+
+-- what a number names: the state that has it, or none, and then the number is handed back
+abbrev pub StateOf : ℕ → Result State NoSuchState → Type 0
+StateOf n r = MatchResult r (λ s. (state_numbered n ≡ Some s) × (state_number s ≡ n)) (λ e. (e.0 ≡ n) × ((state_numbered n ≡ None) × (6 < n)))
 
 abbrev pub is_transferring : State → Bool
 is_transferring Idle = false

@@ -1,14 +1,26 @@
 // What a call answers, and what it asks of the station.
 
-// Seven plain numbers; those that a call has no use for are zero.
+// The lines of an answer, each by its weight.
+pub const INT: u8 = 0x01;
+
+pub const DREQ: u8 = 0x02;
+
+pub const ATN: u8 = 0x04;
+
+pub const ACK: u8 = 0x08;
+
+pub const CONNECTED: u8 = 0x10;
+
+// Seven plain numbers with C's layout, since a host that is not written in Rattle lends the room for them; those that a call
+// has no use for are zero.
 #[repr(C)]
-#[derive(Clone, Copy)]
+#[derive(Clone, Copy, Debug, Default, PartialEq, Eq)]
 pub struct Answer {
     // the number of the refusal, zero where there is none
     pub refusal: u8,
     // what was read
     pub value: u8,
-    // INT (1), DREQ (2), ATN (4), ACK (8), connected (16): as they are after the call
+    // INT, DREQ, ATN, ACK and connected, as they are after the call
     pub lines: u8,
     // 0 no byte moved on the cable, 1 one came in, 2 one went out
     pub cable: u8,
@@ -22,7 +34,7 @@ pub struct Answer {
 
 // What the station is to hear: nothing; that it is told, with this byte; or that this address is chosen, with the
 // state of ATN.
-#[derive(Clone, Copy)]
+#[derive(Clone, Copy, Debug, PartialEq, Eq)]
 pub enum Reaction {
     Nothing,
     Tell(u8),
@@ -30,7 +42,7 @@ pub enum Reaction {
 }
 
 // What a call asks of the station, and its answer.
-#[derive(Clone, Copy)]
+#[derive(Clone, Copy, Debug, PartialEq, Eq)]
 pub struct Response {
     pub reaction: Reaction,
     pub answer: Answer,

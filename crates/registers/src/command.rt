@@ -1,8 +1,8 @@
 // The commands of the chip, by their codes.
 ghost use Rattle.std.specs.Prelude.{◌≡◌};
-ghost use Rattle.registers.specs.Commands.{command_table, command_of, is_select, is_transfer};
+ghost use Rattle.registers.specs.Commands.{command_of, is_select, is_transfer};
 
-#[derive(Clone, Copy)]
+#[derive(Clone, Copy, Debug, PartialEq, Eq)]
 pub enum Command {
     ChipReset,
     Disconnect,
@@ -16,22 +16,31 @@ pub enum Command {
     Select,
     // Info or Pad.
     Transfer,
-    // Codes that the chip does not have.
+    // Codes that the chip does not have. It takes them as an order all the same, and raises Invalid Command.
     Invalid,
 }
 
 impl Command {
-    // What a value written to Command orders; only its five lowest bits matter here.
-    pub fn of(value: u8) -> Self
-        ensures { result ≡ command_of value }
+    pub fn is_select(self) -> bool
+        ensures { result ≡ is_select self }
     {
-        Command::look_up(value & 31)
+        self == Command::Select
     }
 
-    fn look_up(code: u8) -> Self
-        ensures { result ≡ command_table code }
+    pub fn is_transfer(self) -> bool
+        ensures { result ≡ is_transfer self }
     {
-        match code {
+        self == Command::Transfer
+    }
+}
+
+// What a value written to Command orders; only its five lowest bits matter here.
+impl From<u8> for Command {
+    ghost from_gives = { λ x c. c ≡ command_of x };
+
+    #[tactic(auto, unfolding(crate::specs::Commands::command_of))]
+    fn from(value: u8) -> Command {
+        match value & 31 {
             0 => Command::ChipReset,
             1 => Command::Disconnect,
             2 => Command::Pause,
@@ -42,24 +51,6 @@ impl Command {
             8 | 9 => Command::Select,
             20 | 21 => Command::Transfer,
             _ => Command::Invalid,
-        }
-    }
-
-    pub fn is_select(self) -> bool
-        ensures { result ≡ is_select self }
-    {
-        match self {
-            Command::Select => true,
-            _ => false,
-        }
-    }
-
-    pub fn is_transfer(self) -> bool
-        ensures { result ≡ is_transfer self }
-    {
-        match self {
-            Command::Transfer => true,
-            _ => false,
         }
     }
 }

@@ -3,6 +3,7 @@
 
 pub mod answer;
 pub mod call;
+pub mod cause;
 pub mod command;
 pub mod refusal;
 pub mod register;

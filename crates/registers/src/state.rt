@@ -1,8 +1,10 @@
 // The states of the chip.
-ghost use Rattle.std.specs.Prelude.{◌≡◌, IfSome, Some};
-ghost use Rattle.registers.specs.States.{state_number, state_numbered, is_transferring, is_connected, is_busy, is_free, is_disabled};
+ghost use Rattle.std.specs.Prelude.{◌≡◌};
+ghost use Rattle.registers.specs.States.{is_transferring, is_connected, is_busy, is_free, is_disabled, StateNumber, StateOf};
 
-#[derive(Clone, Copy)]
+use thiserror::Error;
+
+#[derive(Clone, Copy, Debug, PartialEq, Eq)]
 pub enum State {
     // Off the cable, with no command.
     Idle,
@@ -19,86 +21,72 @@ pub enum State {
     Disabled,
 }
 
+// A number that no state has: there are seven.
+#[derive(Clone, Copy, Debug, PartialEq, Eq, Error)]
+#[error("there is no state {0}")]
+pub struct NoSuchState(pub u8);
+
 impl State {
-    pub fn number(self) -> u8
-        ensures value { result ≡ state_number self }
-        ensures inverse { state_numbered result ≡ Some self }
-    {
-        self as u8
-    }
-
-    // The state of a number, if it has one.
-    pub fn numbered(number: u8) -> Option<State>
-        ensures value { result ≡ state_numbered number }
-        ensures back { IfSome result (λ s. state_number s ≡ number) }
-    {
-        match number {
-            0 => Some(State::Idle),
-            1 => Some(State::Arbitrating),
-            2 => Some(State::Selecting),
-            3 => Some(State::Waiting),
-            4 => Some(State::Asked),
-            5 => Some(State::Transferring),
-            6 => Some(State::Disabled),
-            _ => None,
-        }
-    }
-
     pub fn is_transferring(self) -> bool
         ensures { result ≡ is_transferring self }
     {
-        match self {
-            State::Transferring => true,
-            State::Idle
-            | State::Arbitrating
-            | State::Selecting
-            | State::Waiting
-            | State::Asked
-            | State::Disabled => false,
-        }
+        matches!(self, State::Transferring)
     }
 
     // Connected to a station.
     pub fn is_connected(self) -> bool
         ensures { result ≡ is_connected self }
     {
-        match self {
-            State::Waiting | State::Asked | State::Transferring => true,
-            State::Idle | State::Arbitrating | State::Selecting | State::Disabled => false,
-        }
+        matches!(self, State::Waiting | State::Asked | State::Transferring)
     }
 
     // A command is under way.
     pub fn is_busy(self) -> bool
         ensures { result ≡ is_busy self }
     {
-        match self {
-            State::Arbitrating | State::Selecting | State::Transferring => true,
-            State::Idle | State::Waiting | State::Asked | State::Disabled => false,
-        }
+        matches!(
+            self,
+            State::Arbitrating | State::Selecting | State::Transferring
+        )
     }
 
     // Neither connected nor disabled.
     pub fn is_free(self) -> bool
         ensures { result ≡ is_free self }
     {
-        match self {
-            State::Idle | State::Arbitrating | State::Selecting => true,
-            State::Waiting | State::Asked | State::Transferring | State::Disabled => false,
-        }
+        matches!(self, State::Idle | State::Arbitrating | State::Selecting)
     }
 
     pub fn is_disabled(self) -> bool
         ensures { result ≡ is_disabled self }
     {
-        match self {
-            State::Disabled => true,
-            State::Idle
-            | State::Arbitrating
-            | State::Selecting
-            | State::Waiting
-            | State::Asked
-            | State::Transferring => false,
+        matches!(self, State::Disabled)
+    }
+}
+
+impl From<State> for u8 {
+    ghost from_gives = { StateNumber };
+
+    fn from(state: State) -> u8 {
+        state as u8
+    }
+}
+
+impl TryFrom<u8> for State {
+    type Error = NoSuchState;
+
+    ghost try_from_gives = { StateOf };
+
+    fn try_from(number: u8) -> Result<State, NoSuchState> {
+        match number {
+            0 => Ok(State::Idle),
+            1 => Ok(State::Arbitrating),
+            2 => Ok(State::Selecting),
+            3 => Ok(State::Waiting),
+            4 => Ok(State::Asked),
+            5 => Ok(State::Transferring),
+            6 => Ok(State::Disabled),
+            _ => Err(NoSuchState(number)),
         }
     }
 }
