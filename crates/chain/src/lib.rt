@@ -33,10 +33,11 @@ pub fn check<R: Linked>(records: &[R]) -> Result<usize, ChainRefusal>
     walk(records)
 }
 
+// A loop, which breaks with its answer: the count and the last record come from one and the same walk.
 fn walk<R: Linked>(records: &[R]) -> Result<usize, ChainRefusal>
     ensures { result ≡ verdict R.Linked.next records.now }
 {
-    if records.len() == 0 {
+    if records.is_empty() {
         return Ok(0);
     }
     let mut number = 1;

@@ -1,10 +1,11 @@
 use Rattle.std.proofs.Common.{length, sym, ◌∙◌, arith}
+use Rattle.std.proofs.lemmas.Bool.{eqb-true}
 use Rattle.chain.proofs.Steps.{led}
 use Rattle.chain.proofs.Keeps.{empty, counted, refused, onward}
 use Rattle.chain.proofs.walk.Goals as goal
 
-pub returns-then-records-eq0 : goal.returns-then-records-eq0
-returns-then-records-eq0 g c = empty g.R.Linked.next c.args.records.now c.if-records-eq0.true
+pub returns-then-is_empty : goal.returns-then-is_empty
+returns-then-is_empty g c = empty g.R.Linked.next c.args.records.now (eqb-true (length c.args.records.now) 0 (sym c.if-is_empty.ensures))
 
 pub loop-next-preserved : goal.loop-next-preserved
 loop-next-preserved g c =
