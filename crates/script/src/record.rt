@@ -11,7 +11,7 @@ use bus::phase::Phase;
 use bus::wish::Wish;
 
 // A row that can be played: it has a kind, a phase and a parity that exist.
-#[derive(Clone, Copy)]
+#[derive(Clone, Copy, Debug, PartialEq, Eq)]
 pub struct Record {
     row: Row,
     ghost kind: { row.kind ≤ 4 },
@@ -19,11 +19,13 @@ pub struct Record {
     ghost parity: { row.parity ≤ 1 },
 }
 
-impl Record {
-    // The record of a row, or the first reason why there is none.
-    pub fn new(row: Row) -> Result<Self, RecordRefusal>
-        ensures { result_map_both (λ x. x.row) (λ e. e) result ≡ made row }
-    {
+// The record of a row, or the first reason why there is none.
+impl TryFrom<Row> for Record {
+    type Error = RecordRefusal;
+
+    ghost try_from_gives = { λ row made_of. result_map_both (λ x. x.row) (λ e. e) made_of ≡ made row };
+
+    fn try_from(row: Row) -> Result<Record, RecordRefusal> {
         if row.kind > 4 {
             return Err(RecordRefusal::Kind);
         }
@@ -35,14 +37,16 @@ impl Record {
         }
         Ok(Record { row })
     }
+}
 
+impl Record {
     // The wish that the record is played as.
     pub fn wish(self) -> Wish
         ensures value { result ≡ wish_of self.row }
         ensures numbers { Reads self.row result }
     {
-        let phase = Phase::numbered(self.row.phase).unwrap();
-        let parity = Parity::numbered(self.row.parity).unwrap();
+        let phase = Phase::try_from(self.row.phase).unwrap();
+        let parity = Parity::try_from(self.row.parity).unwrap();
         match self.row.kind {
             0 => Wish::Off,
             1 => Wish::Back(IdByte::new(self.row.byte), parity),

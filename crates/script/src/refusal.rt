@@ -2,22 +2,24 @@
 ghost use Rattle.std.specs.Prelude.{◌≡◌};
 ghost use Rattle.script.specs.Refusals.{record_refusal};
 
-#[derive(Clone, Copy)]
+use thiserror::Error;
+
+#[derive(Clone, Copy, Debug, PartialEq, Eq, Error)]
 pub enum RecordRefusal {
-    // The kind is above 4.
+    #[error("the kind is above 4")]
     Kind,
-    // The phase is above 7.
+    #[error("the phase is above 7")]
     Phase,
-    // The parity is above 1.
+    #[error("the parity is above 1")]
     Parity,
 }
 
-impl RecordRefusal {
-    // The refusal's number.
-    pub fn number(self) -> u8
-        ensures { result ≡ record_refusal self }
-    {
-        match self {
+// The refusal's number.
+impl From<RecordRefusal> for u8 {
+    ghost from_gives = { λ r n. n ≡ record_refusal r };
+
+    fn from(refusal: RecordRefusal) -> u8 {
+        match refusal {
             RecordRefusal::Kind => 10,
             RecordRefusal::Phase => 11,
             RecordRefusal::Parity => 12,

@@ -10,7 +10,7 @@ use chain::refusal::ChainRefusal;
 pub const MOST_ROWS: usize = 4096;
 
 // Five plain numbers, which need not make sense.
-#[derive(Clone, Copy)]
+#[derive(Clone, Copy, Debug, PartialEq, Eq)]
 pub struct Row {
     // 0 Off, 1 Back, 2 Hold, 3 Req, 4 Go
     pub kind: u8,
@@ -31,13 +31,11 @@ impl Linked for Row {
 }
 
 // The rows that count: the first 4,096.
+#[tactic(auto, using(std::proofs::lemmas::List::take_min))]
 pub fn counted(rows: &[Row]) -> &[Row]
     ensures { result.now ≡ take 4096 rows.now }
 {
-    if rows.len() < MOST_ROWS {
-        return rows;
-    }
-    &rows[0..MOST_ROWS]
+    &rows[..MOST_ROWS.min(rows.len())]
 }
 
 // How many records the table's chain has, or the first whose next ends it wrongly.

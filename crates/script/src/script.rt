@@ -1,7 +1,7 @@
 // The station that plays a script.
 ghost use Rattle.std.specs.Prelude.{◌≡◌, ◌≤◌, length};
 ghost use Rattle.script.specs.Records.{played, row_byte};
-ghost use Rattle.script.specs.Scripts.{opening, follow, next_place, record_number, waiting_at, script_meaning, ScriptAt, Opened, PutsUp};
+ghost use Rattle.script.specs.Scripts.{table, opening, follow, next_place, record_number, waiting_at, script_meaning, ScriptAt, Opened, PutsUp};
 ghost use Rattle.script.specs.ScriptLawful.{script_lawful};
 
 use super::record::Record;
@@ -9,10 +9,10 @@ use super::row::{Row, counted};
 use bus::address::StationAddress;
 use bus::station::{Station, Tally};
 use bus::wish::Wish;
-use chain::leads;
+use chain::{Linked, leads};
 
 // Where play stands.
-#[derive(Clone, Copy)]
+#[derive(Clone, Copy, Debug, PartialEq, Eq)]
 pub enum Place {
     // At a record: its number, and its row.
     At(usize, Row),
@@ -37,7 +37,7 @@ impl<'a> Script<'a> {
         ensures opened { Opened rows.now address result }
         ensures law { PutsUp rows.now result }
     {
-        Script::open(rows, address)
+        Script::resume(rows, address, opening(rows))
     }
 
     // A script as it was left at a place, to go on from there.
@@ -55,24 +55,7 @@ impl<'a> Script<'a> {
     pub fn place(&self) -> Place
         ensures { result ≡ self.now.place }
     {
-        let reached = self.place;
-        reached
-    }
-
-    fn open(rows: &'a [Row], address: StationAddress) -> Self
-        ensures { Opened rows.now address result }
-    {
-        let rows = counted(rows);
-        let place = if rows.len() == 0 {
-            Place::End
-        } else {
-            Place::At(1, rows[0])
-        };
-        Script {
-            rows,
-            address,
-            place,
-        }
+        self.place
     }
 
     // The number of the present record, if play stands at one.
@@ -85,10 +68,11 @@ impl<'a> Script<'a> {
         }
     }
 
-    // Where the chain goes from a record with this next.
-    fn following(&self, number: usize, next: usize) -> Place
-        ensures { result ≡ follow self.now.rows.now number next }
+    // Where the chain goes from the record with this number and row.
+    fn following(&self, number: usize, row: Row) -> Place
+        ensures { result ≡ follow self.now.rows.now number row.next }
     {
+        let next = row.next();
         if leads(self.rows.len(), number, next) {
             Place::At(next, self.rows[next - 1])
         } else {
@@ -100,13 +84,13 @@ impl<'a> Script<'a> {
         ensures { result ≡ next_place self.now.rows.now self.now.place }
     {
         match self.place {
-            Place::At(number, row) => self.following(number, row.next as usize),
+            Place::At(number, row) => self.following(number, row),
             Place::End => Place::Leaving,
             Place::Leaving => Place::End,
         }
     }
 
-    // Along the chain to its end.
+    // Along the chain to its end. A loop: `successors` would take this same step in a closure, and stop by a second one.
     fn bytes_left(&self) -> usize
         ensures { result ≡ length (waiting_at self.now.rows.now self.now.place) }
     {
@@ -114,10 +98,19 @@ impl<'a> Script<'a> {
         let mut place = self.place;
         while let Place::At(number, row) = place {
             count += bytes_of(row);
-            place = self.following(number, row.next as usize);
+            place = self.following(number, row);
         }
         count
     }
+}
+
+// Where play begins.
+fn opening(rows: &[Row]) -> Place
+    ensures { result ≡ opening (table rows.now) }
+{
+    counted(rows)
+        .first()
+        .map_or(Place::End, |row| Place::At(1, *row))
 }
 
 // How many Data In bytes a row puts up.
@@ -125,17 +118,14 @@ fn bytes_of(row: Row) -> usize
     ensures value { result ≡ length (row_byte row) }
     ensures bound { result ≤ 1 }
 {
-    if play(row).shows_data() { 1 } else { 0 }
+    usize::from(play(row).shows_data())
 }
 
 // A row that makes no record is played as Off.
 fn play(row: Row) -> Wish
     ensures { result ≡ played row }
 {
-    match Record::new(row) {
-        Ok(record) => record.wish(),
-        Err(_) => Wish::Off,
-    }
+    Record::try_from(row).map_or(Wish::Off, Record::wish)
 }
 
 impl<'a> Station for Script<'a> {
@@ -156,7 +146,7 @@ impl<'a> Station for Script<'a> {
     }
 
     fn chosen(&mut self, address: StationAddress, _atn: bool) -> bool {
-        if !self.wish().is_off() || self.address.number() != address.number() {
+        if !self.wish().is_off() || self.address != address {
             return false;
         }
         self.place = self.next_place();

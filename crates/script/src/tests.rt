@@ -20,10 +20,7 @@ fn row(kind: u8, phase: u8, byte: u8, parity: u8, next: u32) -> Row {
 
 // The number of the refusal, zero where there is a record.
 fn refusal(row: Row) -> u8 {
-    match Record::new(row) {
-        Ok(_) => 0,
-        Err(refusal) => refusal.number(),
-    }
+    Record::try_from(row).err().map_or(0, u8::from)
 }
 
 #[test]
@@ -46,11 +43,10 @@ fn rows_make_records(rt: HostRuntime) {
 }
 
 fn table(heap: Global, nexts: &[u32]) -> Result<Vec<Row>, AllocError> {
-    let mut rows = Vec::new(heap);
-    for next in nexts {
-        rows.push(row(0, 0, 0, 0, *next))?;
-    }
-    Ok(rows)
+    nexts
+        .iter()
+        .map(|next| row(0, 0, 0, 0, *next))
+        .collect(heap)
 }
 
 // How many records the chain has, and zero; or zero, and the record that ends it wrongly.
