@@ -9,7 +9,7 @@ use Rattle.drive.specs.declared.drive.Stage.TheVariants.{Idle, Reply}
 use Rattle.drive.specs.declared.drive.Drive.{Drive}
 use Rattle.drive.specs.Images.{blocks_in, stored, first_of}
 use Rattle.drive.specs.Commands.{decoded, reply, reply_to, read_first, read_count}
-use Rattle.drive.specs.Drives.{store_of, at_stage, called_on, left_of, reply_bytes, reply_goes, drive_meaning}
+use Rattle.drive.specs.Drives.{store_of, at_stage, called_on, sending, left_of, reply_bytes, reply_goes, drive_meaning}
 use Rattle.drive.specs.Services.{answer_to, sent_for, status_for, Right, data_wish, closing_wishes, message_wishes, command_wishes, Serves, ServesAll, Edge}
 
 module _ (store c : List ℕ) where
@@ -39,22 +39,22 @@ module _ (store c : List ℕ) where
 
 module _ (d : Drive) (x y z : ℕ) (r : ReplyOf) where
   -- one more byte of an answer was sent
-  onward : (b : ℕ) (bs : List ℕ) (k : ℕ) → left_of (store_of d) r k ≡ b ∷ bs → left_of (store_of d) r (k + 1) ≡ bs
+  onward : (b : ℕ) (bs : List ℕ) (k : ℕ) → left_of (store_of d) (sending r k) ≡ b ∷ bs → left_of (store_of d) (sending r (k + 1)) ≡ bs
   onward b bs k e = sym (drop-drop 1 k (reply_bytes (store_of d) r)) ∙ ap (drop 1) e
 
   -- from an answer of which these bytes are left
-  sends : (ys : List ℕ) (k : ℕ) (inputs : List ℕ) → left_of (store_of d) r k ≡ ys → length inputs ≡ length ys → wishes drive_meaning (inputs ++ (x ∷ y ∷ z ∷ [])) (at_stage d (Reply r k)) ≡ map data_wish ys ++ closing_wishes r.status
+  sends : (ys : List ℕ) (k : ℕ) (inputs : List ℕ) → left_of (store_of d) (sending r k) ≡ ys → length inputs ≡ length ys → wishes drive_meaning (inputs ++ (x ∷ y ∷ z ∷ [])) (at_stage d (Reply (sending r k))) ≡ map data_wish ys ++ closing_wishes r.status
   sends [] k [] e h = rw e
   sends [] k (i ∷ is) e h = let no : ⊥ = omega arith in absurd no
   sends (b ∷ bs) k [] e h = let no : ⊥ = omega arith in absurd no
   sends (b ∷ bs) k (i ∷ is) e h = rw e (ap (λ l. data_wish b ∷ l) (sends bs (k + 1) is (onward b bs k e) (omega arith)))
 
-  ends : (ys : List ℕ) (k : ℕ) (inputs : List ℕ) → left_of (store_of d) r k ≡ ys → length inputs ≡ length ys → told_all drive_meaning (inputs ++ (x ∷ y ∷ z ∷ [])) (at_stage d (Reply r k)) ≡ at_stage d Idle
+  ends : (ys : List ℕ) (k : ℕ) (inputs : List ℕ) → left_of (store_of d) (sending r k) ≡ ys → length inputs ≡ length ys → told_all drive_meaning (inputs ++ (x ∷ y ∷ z ∷ [])) (at_stage d (Reply (sending r k))) ≡ at_stage d Idle
   ends [] k [] e h = rw e
   ends [] k (i ∷ is) e h = let no : ⊥ = omega arith in absurd no
   ends (b ∷ bs) k [] e h = let no : ⊥ = omega arith in absurd no
   ends (b ∷ bs) k (i ∷ is) e h =
-      ap (λ l. told_all drive_meaning (is ++ (x ∷ y ∷ z ∷ [])) (at_stage d (reply_goes (first_of l) r k))) e
+      ap (λ l. told_all drive_meaning (is ++ (x ∷ y ∷ z ∷ [])) (at_stage d (reply_goes (first_of l) (sending r k)))) e
       ∙ ends bs (k + 1) is (onward b bs k e) (omega arith)
 
 module _ (d : Drive) (idle : d.stage ≡ Idle) where
@@ -68,10 +68,10 @@ module _ (d : Drive) (idle : d.stage ≡ Idle) where
     abbrev answer : ReplyOf
     answer = answer_to (store_of d) command
 
-    shown : wishes drive_meaning (inputs ++ (x ∷ y ∷ z ∷ [])) (at_stage d (Reply answer 0)) ≡ map data_wish (sent_for (store_of d) command) ++ closing_wishes answer.status
+    shown : wishes drive_meaning (inputs ++ (x ∷ y ∷ z ∷ [])) (at_stage d (Reply (sending answer 0))) ≡ map data_wish (sent_for (store_of d) command) ++ closing_wishes answer.status
     shown = sends d x y z answer (sent_for (store_of d) command) 0 inputs refl h
 
-    over : told_all drive_meaning (inputs ++ (x ∷ y ∷ z ∷ [])) (at_stage d (Reply answer 0)) ≡ d
+    over : told_all drive_meaning (inputs ++ (x ∷ y ∷ z ∷ [])) (at_stage d (Reply (sending answer 0))) ≡ d
     over = ends d x y z answer (sent_for (store_of d) command) 0 inputs refl h ∙ ap (at_stage d) (sym idle)
 
     -- the message if ATN was on, and the command

@@ -5,10 +5,10 @@ use Rattle.std.proofs.lemmas.Bool.{and_parts}
 use Rattle.bus.specs.Wishes.{offers, is_off}
 use Rattle.bus.specs.Meaning.{Lawful, left, says_yes}
 use Rattle.bus.proofs.Clauses.{begins}
-use Rattle.drive.specs.declared.command.Reply.{Reply as ReplyOf}
 use Rattle.drive.specs.declared.drive.Stage.{Stage}
 use Rattle.drive.specs.declared.drive.Stage.TheVariants.{Idle, MessageOut, Command, Reply, Complete, Leaving}
 use Rattle.drive.specs.declared.drive.Drive.{Drive}
+use Rattle.drive.specs.declared.sending.Sending.{Sending}
 use Rattle.drive.specs.Images.{first_of}
 use Rattle.drive.specs.Drives.{left_of, reply_bytes, reply_wish, reply_goes, wants_at, waiting_at, next_stage, store_of, at_stage, called_on, drive_meaning}
 
@@ -24,21 +24,21 @@ shows : (store : List ℕ) (s : Stage) → waiting_at store s ≡ shown store s 
 shows store Idle = refl
 shows store MessageOut = refl
 shows store (Command c) = refl
-shows store (Reply r sent) = reply_shows (left_of store r sent) r.status
+shows store (Reply s) = reply_shows (left_of store s) s.reply.status
 shows store Complete = refl
 shows store Leaving = refl
 
 -- an answer that goes on leaves all but that byte
-reply_leaves : (store : List ℕ) (r : ReplyOf) (sent : ℕ) (xs : List ℕ) → left_of store r sent ≡ xs → waiting_at store (reply_goes (first_of xs) r sent) ≡ drop (length (offers (reply_wish (first_of xs) r.status))) xs
-reply_leaves store r sent [] e = refl
-reply_leaves store r sent (b ∷ bs) e = sym (drop-drop 1 sent (reply_bytes store r)) ∙ ap (drop 1) e
+reply_leaves : (store : List ℕ) (s : Sending) (xs : List ℕ) → left_of store s ≡ xs → waiting_at store (reply_goes (first_of xs) s) ≡ drop (length (offers (reply_wish (first_of xs) s.reply.status))) xs
+reply_leaves store s [] e = refl
+reply_leaves store s (b ∷ bs) e = sym (drop-drop 1 s.sent (reply_bytes store s.reply)) ∙ ap (drop 1) e
 
 -- what joins at a Told
 joining : List ℕ → Stage → ℕ → List ℕ
 joining store Idle b = []
 joining store MessageOut b = []
 joining store (Command c) b = waiting_at store (next_stage store (Command c) b)
-joining store (Reply r sent) b = []
+joining store (Reply s) b = []
 joining store Complete b = []
 joining store Leaving b = []
 
@@ -47,7 +47,7 @@ unfolding joining
 joins store Idle b = refl
 joins store MessageOut b = refl
 joins store (Command c) b = refl
-joins store (Reply r sent) b = reply_leaves store r sent (left_of store r sent) refl ∙ sym (append-nil _)
+joins store (Reply s) b = reply_leaves store s (left_of store s) refl ∙ sym (append-nil _)
 joins store Complete b = refl
 joins store Leaving b = refl
 
@@ -60,7 +60,7 @@ off_idle : (store : List ℕ) (s : Stage) → is_off (wants_at store s) ≡ true
 off_idle store Idle h = refl
 off_idle store MessageOut h = cc
 off_idle store (Command c) h = cc
-off_idle store (Reply r sent) h = let no = never_off (left_of store r sent) r.status in cc
+off_idle store (Reply s) h = let no = never_off (left_of store s) s.reply.status in cc
 off_idle store Complete h = cc
 off_idle store Leaving h = cc
 

@@ -12,6 +12,7 @@ use Rattle.drive.specs.declared.command.Reply.{Reply as ReplyOf}
 use Rattle.drive.specs.declared.drive.Stage.{Stage}
 use Rattle.drive.specs.declared.drive.Stage.TheVariants.{Idle, MessageOut, Command, Reply, Complete, Leaving}
 use Rattle.drive.specs.declared.drive.Drive.{Drive}
+use Rattle.drive.specs.declared.sending.Sending.{Sending}
 use Rattle.drive.specs.Images.{stored, blocks_in, blocks_from, first_of}
 use Rattle.drive.specs.Commands.{no_command, decoded, reply_to}
 
@@ -19,30 +20,34 @@ use Rattle.drive.specs.Commands.{no_command, decoded, reply_to}
 abbrev pub reply_bytes : List ℕ → ReplyOf → List ℕ
 reply_bytes store r = blocks_from store r.first r.count
 
+-- an answer of which so many bytes were sent
+abbrev pub sending : ReplyOf → ℕ → Sending
+sending r k = record { reply = r; sent = k }
+
 -- a byte of a command comes: it is kept until the sixth, which has the command answered
 abbrev pub received : List ℕ → CommandBlock → ℕ → Stage
 received store c b =
     cond (nat_lt c.taken 5) (Command (record { bytes = slice_set c.bytes c.taken b; taken = c.taken + 1 }))
-    (Reply (reply_to (blocks_in store) (decoded (slice_set c.bytes 5 b))) 0)
+    (Reply (sending (reply_to (blocks_in store) (decoded (slice_set c.bytes 5 b))) 0))
 
 -- while a byte is left the answer goes on with it; then comes the status
 abbrev pub reply_wish : Option ℕ → ℕ → Wish
 reply_wish None status = Req Status status Good
 reply_wish (Some b) status = Req DataIn b Good
 
-abbrev pub reply_goes : Option ℕ → ReplyOf → ℕ → Stage
-reply_goes None r sent = Complete
-reply_goes (Some b) r sent = Reply r (sent + 1)
+abbrev pub reply_goes : Option ℕ → Sending → Stage
+reply_goes None s = Complete
+reply_goes (Some b) s = Reply (sending s.reply (s.sent + 1))
 
--- the bytes of an answer that are left after so many
-abbrev pub left_of : List ℕ → ReplyOf → ℕ → List ℕ
-left_of store r sent = drop sent (reply_bytes store r)
+-- the bytes of an answer that are left
+abbrev pub left_of : List ℕ → Sending → List ℕ
+left_of store s = drop s.sent (reply_bytes store s.reply)
 
 abbrev pub wants_at : List ℕ → Stage → Wish
 wants_at store Idle = Off
 wants_at store MessageOut = Req MessageOutPhase 0 Good
 wants_at store (Command c) = Req CommandPhase 0 Good
-wants_at store (Reply r sent) = reply_wish (first_of (left_of store r sent)) r.status
+wants_at store (Reply s) = reply_wish (first_of (left_of store s)) s.reply.status
 wants_at store Complete = Req MessageIn 0 Good
 wants_at store Leaving = Go
 
@@ -51,7 +56,7 @@ abbrev pub waiting_at : List ℕ → Stage → List ℕ
 waiting_at store Idle = []
 waiting_at store MessageOut = []
 waiting_at store (Command c) = []
-waiting_at store (Reply r sent) = left_of store r sent
+waiting_at store (Reply s) = left_of store s
 waiting_at store Complete = []
 waiting_at store Leaving = []
 
@@ -59,7 +64,7 @@ abbrev pub next_stage : List ℕ → Stage → ℕ → Stage
 next_stage store Idle b = Idle
 next_stage store MessageOut b = Command no_command
 next_stage store (Command c) b = received store c b
-next_stage store (Reply r sent) b = reply_goes (first_of (left_of store r sent)) r sent
+next_stage store (Reply s) b = reply_goes (first_of (left_of store s)) s
 next_stage store Complete b = Leaving
 next_stage store Leaving b = Idle
 

@@ -1,28 +1,29 @@
 // The drive.
-ghost use Rattle.std.specs.Prelude.{◌≡◌, ◌^◌, ◌<◌, length, OnSome};
-ghost use Rattle.drive.specs.Images.{first_of};
-ghost use Rattle.drive.specs.Drives.{store_of, left_of, received, next_stage, drive_meaning, DriveAt, IdleDrive};
+ghost use Rattle.std.specs.Prelude.{◌≡◌};
+ghost use Rattle.drive.specs.Drives.{store_of, received, next_stage, drive_meaning, DriveAt, IdleDrive};
 ghost use Rattle.drive.specs.Services.{ServesAll, Edge};
 ghost use Rattle.drive.specs.DriveLawful.{drive_lawful};
 
-use super::command::{Command, CommandBlock, Reply};
-use super::image::{BLOCK, Image};
+use super::command::{Command, CommandBlock};
+use super::image::Image;
+use super::sending::Sending;
 use bus::address::StationAddress;
+use bus::message::Message;
 use bus::parity::Parity;
 use bus::phase::Phase;
 use bus::station::{Station, Tally};
 use bus::wish::Wish;
 
 // How far the drive is with a command.
-#[derive(Clone, Copy)]
+#[derive(Clone, Copy, Debug, PartialEq, Eq)]
 pub enum Stage {
     Idle,
     // It was chosen with ATN on: a message is due.
     MessageOut,
     // The bytes of the command come in.
     Command(CommandBlock),
-    // The answer goes out: so many of its bytes were sent, and the status follows them.
-    Reply(Reply, u32),
+    // The answer goes out, and its status follows.
+    Reply(Sending),
     // The message Command Complete is due.
     Complete,
     // It drops BSY.
@@ -43,16 +44,15 @@ impl<'a> Drive<'a> {
         ensures serves { ServesAll result }
         ensures edge { Edge image.now }
     {
-        Drive::off(image, address)
+        Drive::resume(image, address, Stage::Idle)
     }
 
     // A drive as it was left at a stage, to go on from there.
     pub fn resume(image: &'a [u8], address: StationAddress, stage: Stage) -> Self
         ensures { DriveAt image.now address stage result }
     {
-        let image = Image::new(image);
         Drive {
-            image,
+            image: Image::new(image),
             address,
             stage,
         }
@@ -62,40 +62,7 @@ impl<'a> Drive<'a> {
     pub fn stage(&self) -> Stage
         ensures { result ≡ self.now.stage }
     {
-        let reached = self.stage;
-        reached
-    }
-
-    fn off(image: &'a [u8], address: StationAddress) -> Self
-        ensures { IdleDrive image.now address result }
-    {
-        Drive {
-            image: Image::new(image),
-            address,
-            stage: Stage::Idle,
-        }
-    }
-
-    // The byte of an answer that is due after so many were sent, if one is left.
-    fn data(&self, reply: Reply, sent: u32) -> Option<u8>
-        ensures value { result ≡ first_of (left_of (store_of self.now) reply sent) }
-        ensures bound { OnSome result (sent < 2 ^ 25) }
-    {
-        if sent as usize >= reply.count as usize * BLOCK {
-            return None;
-        }
-        let block = reply.first as usize + sent as usize / BLOCK;
-        self.image.byte(block, sent as usize % BLOCK)
-    }
-
-    // How many bytes of an answer are left after so many were sent.
-    fn left(&self, reply: Reply, sent: u32) -> usize
-        ensures { result ≡ length (left_of (store_of self.now) reply sent) }
-    {
-        let there = self.image.bytes_from(reply.first as usize);
-        there
-            .min(reply.count as usize * BLOCK)
-            .saturating_sub(sent as usize)
+        self.stage
     }
 
     // After one more byte of a command, the sixth of which has it answered.
@@ -111,7 +78,8 @@ impl<'a> Drive<'a> {
             });
         }
         bytes[5] = byte;
-        Stage::Reply(Command::decode(bytes).reply(self.image.blocks()), 0)
+        let reply = Command::from(bytes).reply(self.image.blocks());
+        Stage::Reply(Sending { reply, sent: 0 })
     }
 
     fn next_stage(&self, sent: u8) -> Stage
@@ -121,8 +89,11 @@ impl<'a> Drive<'a> {
             Stage::Idle => Stage::Idle,
             Stage::MessageOut => Stage::Command(CommandBlock::new()),
             Stage::Command(command) => self.receive(command, sent),
-            Stage::Reply(reply, sent) => match self.data(reply, sent) {
-                Some(_) => Stage::Reply(reply, sent + 1),
+            Stage::Reply(sending) => match sending.due(self.image) {
+                Some(_) => Stage::Reply(Sending {
+                    sent: sending.sent + 1,
+                    ..sending
+                }),
                 None => Stage::Complete,
             },
             Stage::Complete => Stage::Leaving,
@@ -141,11 +112,14 @@ impl<'a> Station for Drive<'a> {
             Stage::Idle => Wish::Off,
             Stage::MessageOut => Wish::Req(Phase::MessageOut, 0, Parity::Good),
             Stage::Command(_) => Wish::Req(Phase::Command, 0, Parity::Good),
-            Stage::Reply(reply, sent) => match self.data(reply, sent) {
+            Stage::Reply(sending) => match sending.due(self.image) {
                 Some(byte) => Wish::Req(Phase::DataIn, byte, Parity::Good),
-                None => Wish::Req(Phase::Status, reply.status, Parity::Good),
+                None => Wish::Req(Phase::Status, sending.reply.status, Parity::Good),
             },
-            Stage::Complete => Wish::Req(Phase::MessageIn, 0, Parity::Good),
+            Stage::Complete => {
+                let message = u8::from(Message::CommandComplete);
+                Wish::Req(Phase::MessageIn, message, Parity::Good)
+            }
             Stage::Leaving => Wish::Go,
         }
     }
@@ -155,7 +129,7 @@ impl<'a> Station for Drive<'a> {
     }
 
     fn chosen(&mut self, address: StationAddress, atn: bool) -> bool {
-        if !self.wish().is_off() || self.address.number() != address.number() {
+        if !self.wish().is_off() || self.address != address {
             return false;
         }
         self.stage = if atn {
@@ -175,7 +149,7 @@ impl<'a> Station for Drive<'a> {
 impl<'a> Tally for Drive<'a> {
     fn waiting(&self) -> usize {
         match self.stage {
-            Stage::Reply(reply, sent) => self.left(reply, sent),
+            Stage::Reply(sending) => sending.left(self.image),
             _ => 0,
         }
     }

@@ -23,7 +23,7 @@ impl<'a> Image<'a> {
     {
         let blocks = (bytes.len() / BLOCK).min(MOST_BLOCKS);
         Image {
-            bytes: &bytes[0..blocks * BLOCK],
+            bytes: &bytes[..blocks * BLOCK],
         }
     }
 

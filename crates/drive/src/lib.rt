@@ -4,5 +4,6 @@
 pub mod command;
 pub mod drive;
 pub mod image;
+pub mod sending;
 #[cfg(test)]
 mod tests;

@@ -24,7 +24,7 @@ fn whole_blocks_count(rt: HostRuntime) -> Result<(), Fail> {
     ];
     for (length, blocks) in cases {
         if length <= bytes.len() {
-            let image = Image::new(&bytes.as_slice()[0..length]);
+            let image = Image::new(&bytes.as_slice()[..length]);
             assert_eq!(rt; image.blocks(), blocks);
             assert_eq!(rt; image.byte(blocks, 0), None, "beyond the last block");
         }
@@ -50,7 +50,7 @@ fn commands_are_answered(rt: HostRuntime) {
         ([0xff, 0, 0, 0, 0, 0], 4096, (0, 0, 2)),
     ];
     for (bytes, blocks, expected) in cases {
-        let reply = Command::decode(bytes).reply(blocks);
+        let reply = Command::from(bytes).reply(blocks);
         assert_eq!(rt; (reply.first, reply.count, reply.status), expected);
     }
 }
