@@ -80,26 +80,26 @@ module _ (after k n len : ℕ) (shown : Bool) where
     full = λ t. cc;
   }
 
-module _ {S : Type 0} (m : Meaning S) (new : Breaker S) (fresh : new.passed ≡ 0) (start : new.stage ≡ Through) where
+module _ {S : Type 0} (m : Meaning S) (new : Breaker S) (fresh : new.progress.passed ≡ 0) (start : new.progress.stage ≡ Through) where
   -- the number after which it breaks never changes
-  same_after : (taken up : List ℕ) (s : Breaker S) → Course (breaker_meaning m) new taken up s → s.after ≡ new.after
+  same_after : (taken up : List ℕ) (s : Breaker S) → Course (breaker_meaning m) new taken up s → s.progress.after ≡ new.progress.after
   same_after taken up s nothing = refl
   same_after taken up s (told before joining t c b) = same_after before joining t c
   same_after taken up s (chosen before joining t c a atn) = same_after before joining t c
 
-  counts : 0 < new.after → (taken up : List ℕ) (s : Breaker S) (c : Course (breaker_meaning m) new taken up s) → Count new.after (breaks_in m new taken up s c) s.passed (length taken) s.stage
-  counts pos taken up s nothing = record { all = omega (arith, zero-mul new.after); few = omega arith; full = λ t. let no = ap is_through start in cc }
+  counts : 0 < new.progress.after → (taken up : List ℕ) (s : Breaker S) (c : Course (breaker_meaning m) new taken up s) → Count new.progress.after (breaks_in m new taken up s c) s.progress.passed (length taken) s.progress.stage
+  counts pos taken up s nothing = record { all = omega (arith, zero-mul new.progress.after); few = omega arith; full = λ t. let no = ap is_through start in cc }
   counts pos taken up s (told before joining t c b) =
       let same = same_after before joining t c in
       let k = breaks_in m new before joining t c in
       let st = standing m t in
       let w = m.wants t.below in
-      let so_far : Count t.after k t.passed (length before) t.stage = subst (λ a. Count a k t.passed (length before) t.stage) (sym same) (counts pos before joining t c) in
-      let next = step t.after k t.passed (length before) (shows_data w) t.stage (subst (λ a. 0 < a) (sym same) pos) so_far in
+      let so_far : Count t.progress.after k t.progress.passed (length before) t.progress.stage = subst (λ a. Count a k t.progress.passed (length before) t.progress.stage) (sym same) (counts pos before joining t c) in
+      let next = step t.progress.after k t.progress.passed (length before) (shows_data w) t.progress.stage (subst (λ a. 0 < a) (sym same) pos) so_far in
       let long : length before + cond (is_through st && shows_data w) 1 0 ≡ length (before ++ offers ((breaker_meaning m).wants t)) =
-      ap (λ x. length before + x) (sym (stage_count st (m.address t.below) t.host.number w)) ∙ sym (length-append before _) in
-      let counted : Count new.after _ _ _ _ = subst (λ a. Count a (cond (ends_break st) 1 0 + k) (passed_after st (shows_data w) t.after t.passed) (length before + cond (is_through st && shows_data w) 1 0) (stage_after st t.stage)) same next in
-      subst (λ n. Count new.after (cond (ends_break st) 1 0 + k) (passed_after st (shows_data w) t.after t.passed) n (stage_after st t.stage)) long counted
+      ap (λ x. length before + x) (sym (stage_count st (m.address t.below) t.progress.host.number w)) ∙ sym (length-append before _) in
+      let counted : Count new.progress.after _ _ _ _ = subst (λ a. Count a (cond (ends_break st) 1 0 + k) (passed_after st (shows_data w) t.progress.after t.progress.passed) (length before + cond (is_through st && shows_data w) 1 0) (stage_after st t.progress.stage)) same next in
+      subst (λ n. Count new.progress.after (cond (ends_break st) 1 0 + k) (passed_after st (shows_data w) t.progress.after t.progress.passed) n (stage_after st t.progress.stage)) long counted
   counts pos taken up s (chosen before joining t c a atn) = counts pos before joining t c
 
   -- in a break just so many bytes went through: one began there, or they had before
@@ -118,30 +118,30 @@ module _ {S : Type 0} (m : Meaning S) (new : Breaker S) (fresh : new.passed ≡ 
   in_full Returning after n shown few full e = full refl
   in_full Identifying after n shown few full e = full refl
 
-  spaced : 0 < new.after → (taken up : List ℕ) (s : Breaker S) (c : Course (breaker_meaning m) new taken up s) → Spaced m new taken up s c
+  spaced : 0 < new.progress.after → (taken up : List ℕ) (s : Breaker S) (c : Course (breaker_meaning m) new taken up s) → Spaced m new taken up s c
   spaced pos taken up s c =
       let n = counts pos taken up s c in
       let same = same_after taken up s c in
       record {
         all = n.all;
         few = n.few;
-        full = λ t. in_full s.stage s.after s.passed (shows_data (m.wants s.below)) (omega (arith, n.few)) (λ b. n.full b ∙ sym same) t ∙ same;
+        full = λ t. in_full s.progress.stage s.progress.after s.progress.passed (shows_data (m.wants s.below)) (omega (arith, n.few)) (λ b. n.full b ∙ sym same) t ∙ same;
       }
 
   -- a breaker whose number is zero stays through
-  stays : new.after ≡ 0 → (taken up : List ℕ) (s : Breaker S) → Course (breaker_meaning m) new taken up s → s.stage ≡ Through
+  stays : new.progress.after ≡ 0 → (taken up : List ℕ) (s : Breaker S) → Course (breaker_meaning m) new taken up s → s.progress.stage ≡ Through
   stays zero taken up s nothing = start
   stays zero taken up s (told before joining t c b) =
       let at_through = stays zero before joining t c in
-      let none : t.after ≡ 0 = same_after before joining t c ∙ zero in
+      let none : t.progress.after ≡ 0 = same_after before joining t c ∙ zero in
       let still : standing m t ≡ Through = rw (none, at_through) in
-      ap (λ st. stage_after st t.stage) still ∙ at_through
+      ap (λ st. stage_after st t.progress.stage) still ∙ at_through
   stays zero taken up s (chosen before joining t c a atn) = stays zero before joining t c
 
   pub breaks : Breaks m new
   breaks = record {
     spaced = spaced;
     never = λ zero taken up s c.
-        let none : s.after ≡ 0 = same_after taken up s c ∙ zero in
+        let none : s.progress.after ≡ 0 = same_after taken up s c ∙ zero in
         rw (none, stays zero taken up s c);
   }

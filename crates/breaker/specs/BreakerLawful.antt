@@ -73,11 +73,11 @@ module _ {S : Type 0} (m : Meaning S) (l : Lawful m) (s : Breaker S) where
 
   -- without a break, the wish is the one below
   pub wish_through : through ≡ true → here ≡ wish_below
-  wish_through = through_wish (m.address s.below) s.host.number wish_below (standing m s)
+  wish_through = through_wish (m.address s.below) s.progress.host.number wish_below (standing m s)
 
   -- in a break no Data In byte is shown
   pub shows_none : through ≡ false → offers here ≡ []
-  shows_none = break_shows (m.address s.below) s.host.number wish_below (standing m s)
+  shows_none = break_shows (m.address s.below) s.progress.host.number wish_below (standing m s)
 
   pub left_through : through ≡ true → left (breaker_meaning m) s ≡ left m s.below
   left_through t = ap (λ w. drop (length (offers w)) (m.waiting s.below)) (wish_through t)
@@ -107,23 +107,23 @@ module _ {S : Type 0} (m : Meaning S) (l : Lawful m) (s : Breaker S) where
     where
       by : (t : Bool) → through ≡ t → t ≡ true
       by true _ = refl
-      by false t = let no = break_on (m.address s.below) s.host.number wish_below (standing m s) t in cc
+      by false t = let no = break_on (m.address s.below) s.progress.host.number wish_below (standing m s) t in cc
 
   off_below : is_off here ≡ true → is_off wish_below ≡ true
   off_below e = sym (ap is_off (wish_through (off_through e))) ∙ e
 
   abbrev rebuilt : S → ℕ → Stage → Breaker S
-  rebuilt x n st = record { below = x; after = s.after; host = s.host; passed = n; stage = st }
+  rebuilt x n st = record { below = x; progress = record { after = s.progress.after; host = s.progress.host; passed = n; stage = st } }
 
   rests : (b : ℕ) → is_off here ≡ true → (breaker_meaning m).after_told s b ≡ s
   rests b e =
       let t : standing m s ≡ Through = through_is (standing m s) (off_through e) in
       let still : m.after_told s.below b ≡ s.below = l.rests s.below b (off_below e) in
       let below : cond through (m.after_told s.below b) s.below ≡ s.below = ap (λ st. cond (is_through st) (m.after_told s.below b) s.below) t ∙ still in
-      let count : passed_after (standing m s) (shows_data wish_below) s.after s.passed ≡ s.passed =
-      ap (λ st. passed_after st (shows_data wish_below) s.after s.passed) t
-      ∙ ap (λ d. passed_after Through d s.after s.passed) (off_data wish_below (off_below e)) in
-      let stage : stage_after (standing m s) s.stage ≡ s.stage = ap (λ st. stage_after st s.stage) t in
+      let count : passed_after (standing m s) (shows_data wish_below) s.progress.after s.progress.passed ≡ s.progress.passed =
+      ap (λ st. passed_after st (shows_data wish_below) s.progress.after s.progress.passed) t
+      ∙ ap (λ d. passed_after Through d s.progress.after s.progress.passed) (off_data wish_below (off_below e)) in
+      let stage : stage_after (standing m s) s.progress.stage ≡ s.progress.stage = ap (λ st. stage_after st s.progress.stage) t in
       (λ i. rebuilt (below i) (count i) (stage i))
 
   -- where a breaker says no, so does the station below if it is asked
@@ -131,7 +131,7 @@ module _ {S : Type 0} (m : Meaning S) (l : Lawful m) (s : Breaker S) where
   no_below a t e = ap (λ w. is_off w && m.address s.below == a) (sym (wish_through t)) ∙ e
 
   refuses : (a : ℕ) (atn : Bool) → says_yes (breaker_meaning m) s a ≡ false → (breaker_meaning m).after_chosen s a atn ≡ s
-  refuses a atn e = ap (λ x. rebuilt x s.passed s.stage) (by through refl)
+  refuses a atn e = ap (λ x. rebuilt x s.progress.passed s.progress.stage) (by through refl)
     where
       by : (t : Bool) → through ≡ t → cond t (m.after_chosen s.below a atn) s.below ≡ s.below
       by true t = l.refuses s.below a atn (no_below a t e)

@@ -65,43 +65,41 @@ passed_after Identifying shown after passed = 0
 module _ {S : Type 0} (m : Meaning S) where
   -- so many bytes went through, and the station below shows one more
   abbrev pub is_due : Breaker S → Bool
-  is_due s = nat_lt 0 s.after && (nat_le s.after s.passed && shows_data (m.wants s.below))
+  is_due s = nat_lt 0 s.progress.after && (nat_le s.progress.after s.progress.passed && shows_data (m.wants s.below))
 
   abbrev pub standing : Breaker S → Stage
-  standing s = begun (is_due s) s.stage
+  standing s = begun (is_due s) s.progress.stage
 
   -- a Told that goes through
   abbrev pub passed_on : Breaker S → ℕ → Breaker S
   passed_on s b = record {
     below = m.after_told s.below b;
-    after = s.after;
-    host = s.host;
-    passed = passed_after Through (shows_data (m.wants s.below)) s.after s.passed;
-    stage = s.stage;
+    progress = record {
+      after = s.progress.after;
+      host = s.progress.host;
+      passed = passed_after Through (shows_data (m.wants s.below)) s.progress.after s.progress.passed;
+      stage = s.progress.stage;
+    };
   }
 
   abbrev pub breaker_told : Breaker S → ℕ → Breaker S
   breaker_told s b = record {
     below = cond (is_through (standing s)) (m.after_told s.below b) s.below;
-    after = s.after;
-    host = s.host;
-    passed = passed_after (standing s) (shows_data (m.wants s.below)) s.after s.passed;
-    stage = stage_after (standing s) s.stage;
+    progress = record {
+      after = s.progress.after;
+      host = s.progress.host;
+      passed = passed_after (standing s) (shows_data (m.wants s.below)) s.progress.after s.progress.passed;
+      stage = stage_after (standing s) s.progress.stage;
+    };
   }
 
   abbrev pub breaker_chosen : Breaker S → ℕ → Bool → Breaker S
-  breaker_chosen s a atn = record {
-    below = cond (is_through (standing s)) (m.after_chosen s.below a atn) s.below;
-    after = s.after;
-    host = s.host;
-    passed = s.passed;
-    stage = s.stage;
-  }
+  breaker_chosen s a atn = record { below = cond (is_through (standing s)) (m.after_chosen s.below a atn) s.below; progress = s.progress }
 
   -- During a break the station below hears nothing. Its address and its waiting list are always the breaker's.
   abbrev pub breaker_meaning : Meaning (Breaker S)
   breaker_meaning = record {
-    wants = λ s. stage_wish (standing s) (m.address s.below) s.host.number (m.wants s.below);
+    wants = λ s. stage_wish (standing s) (m.address s.below) s.progress.host.number (m.wants s.below);
     address = λ s. m.address s.below;
     waiting = λ s. m.waiting s.below;
     after_told = breaker_told;
@@ -110,12 +108,16 @@ module _ {S : Type 0} (m : Meaning S) where
 
 -- how far a breaker is
 abbrev pub progress_of : {S : Type 0} → Breaker S → Progress
-progress_of s = record { after = s.after; host = s.host; passed = s.passed; stage = s.stage }
+progress_of s = s.progress
+
+-- how far a new breaker is
+abbrev pub starting : ℕ → StationAddress → Progress
+starting after host = record { after = after; host = host; passed = 0; stage = Through }
 
 -- a new breaker over a station
 pub record Made {S : Type 0} (below : S) (after : ℕ) (host : StationAddress) (s : Breaker S) : Type 0 where
   pub below_is : s.below ≡ below
-  pub after_is : s.after ≡ after
-  pub host_is : s.host ≡ host
-  pub passed_is : s.passed ≡ 0
-  pub stage_is : s.stage ≡ Through
+  pub after_is : s.progress.after ≡ after
+  pub host_is : s.progress.host ≡ host
+  pub passed_is : s.progress.passed ≡ 0
+  pub stage_is : s.progress.stage ≡ Through

@@ -33,11 +33,11 @@ module _ {S : Type 0} (m : Meaning S) where
   -- Between two breaks exactly so many bytes are taken: those of the breaks that are over, and those since. There are
   -- never more since, and during a break there are just so many.
   pub record Spaced (new : Breaker S) (taken up : List ℕ) (s : Breaker S) (c : Course (breaker_meaning m) new taken up s) : Type 0 where
-    pub all : length taken ≡ breaks_in new taken up s c * new.after + s.passed
-    pub few : s.passed ≤ new.after
-    pub full : is_through (standing m s) ≡ false → s.passed ≡ new.after
+    pub all : length taken ≡ breaks_in new taken up s c * new.progress.after + s.progress.passed
+    pub few : s.progress.passed ≤ new.progress.after
+    pub full : is_through (standing m s) ≡ false → s.progress.passed ≡ new.progress.after
 
   -- after zero bytes is never
   pub record Breaks (new : Breaker S) : Type 0 where
-    pub spaced : 0 < new.after → (taken up : List ℕ) (s : Breaker S) (c : Course (breaker_meaning m) new taken up s) → Spaced new taken up s c
-    pub never : new.after ≡ 0 → (taken up : List ℕ) (s : Breaker S) → Course (breaker_meaning m) new taken up s → is_through (standing m s) ≡ true
+    pub spaced : 0 < new.progress.after → (taken up : List ℕ) (s : Breaker S) (c : Course (breaker_meaning m) new taken up s) → Spaced new taken up s c
+    pub never : new.progress.after ≡ 0 → (taken up : List ℕ) (s : Breaker S) → Course (breaker_meaning m) new taken up s → is_through (standing m s) ≡ true

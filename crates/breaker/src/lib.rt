@@ -2,25 +2,20 @@
 #![tactic(auto)]
 
 ghost use Rattle.std.specs.Prelude.{◌≡◌};
-ghost use Rattle.breaker.specs.Breakers.{is_due, standing, passed_on, breaker_meaning, progress_of, Made};
+ghost use Rattle.bus.specs.Messages.{message_byte};
+ghost use Rattle.breaker.specs.Breakers.{is_due, standing, passed_on, breaker_meaning, progress_of, starting, Made};
 ghost use Rattle.breaker.specs.Breaks.{ChangesNothing, Breaks};
 ghost use Rattle.breaker.specs.BreakerLawful.{breaker_lawful};
 
 use bus::address::StationAddress;
+use bus::message::Message;
 use bus::parity::Parity;
 use bus::phase::Phase;
 use bus::station::{Station, Tally};
 use bus::wish::Wish;
 
-// The messages of a break.
-const SAVE_DATA_POINTER: u8 = 0x02;
-
-const DISCONNECT: u8 = 0x04;
-
-const IDENTIFY: u8 = 0x80;
-
 // How far a break has come.
-#[derive(Clone, Copy)]
+#[derive(Clone, Copy, Debug, PartialEq, Eq)]
 pub enum Stage {
     // There is none: the station below is on the cable.
     Through,
@@ -37,23 +32,34 @@ pub enum Stage {
 }
 
 // How far a breaker is, without the station below.
-#[derive(Clone, Copy)]
+#[derive(Clone, Copy, Debug, PartialEq, Eq)]
 pub struct Progress {
+    // It breaks after so many Data In bytes; zero is never.
     pub after: u16,
     pub host: StationAddress,
+    // The Data In bytes since the start or the last break.
     pub passed: u16,
     pub stage: Stage,
+}
+
+impl Progress {
+    // No byte went through yet.
+    fn start(after: u16, host: StationAddress) -> Self
+        ensures { result ≡ starting after host }
+    {
+        Progress {
+            after,
+            host,
+            passed: 0,
+            stage: Stage::Through,
+        }
+    }
 }
 
 #[derive(Drop)]
 pub struct Breaker<S> {
     below: S,
-    // It breaks after so many Data In bytes; zero is never.
-    after: u16,
-    host: StationAddress,
-    // The Data In bytes since the start or the last break.
-    passed: u16,
-    stage: Stage,
+    progress: Progress,
 }
 
 impl<S: Station> Breaker<S> {
@@ -64,19 +70,7 @@ impl<S: Station> Breaker<S> {
         ensures bytes { ChangesNothing S.meaning result }
         ensures breaks { Breaks S.meaning result }
     {
-        Breaker::over(below, after, host)
-    }
-
-    fn over(below: S, after: u16, host: StationAddress) -> Self
-        ensures { Made below after host result }
-    {
-        Breaker {
-            below,
-            after,
-            host,
-            passed: 0,
-            stage: Stage::Through,
-        }
+        Breaker::resume(below, Progress::start(after, host))
     }
 
     // A breaker as it was left, to go on from there.
@@ -84,53 +78,36 @@ impl<S: Station> Breaker<S> {
         ensures below { result.below ≡ below }
         ensures progress { progress_of result ≡ progress }
     {
-        Breaker {
-            below,
-            after: progress.after,
-            host: progress.host,
-            passed: progress.passed,
-            stage: progress.stage,
-        }
+        Breaker { below, progress }
     }
 
     // How far it is.
     pub fn progress(&self) -> Progress
         ensures { result ≡ progress_of self.now }
     {
-        Progress {
-            after: self.after,
-            host: self.host,
-            passed: self.passed,
-            stage: self.stage,
-        }
+        self.progress
     }
 
     // The station below, as it is now.
     pub fn into_below(self) -> S
         ensures { result ≡ self.below }
     {
-        let Breaker {
-            below: station,
-            after: _,
-            host: _,
-            passed: _,
-            stage: _,
-        } = self;
-        station
+        self.below
     }
 
     // Whether a break is due: so many bytes went through, and the station below shows one more.
     fn is_due(&self) -> bool
         ensures { result ≡ is_due S.meaning self.now }
     {
-        self.after > 0 && self.after <= self.passed && self.below.wish().shows_data()
+        let Progress { after, passed, .. } = self.progress;
+        after > 0 && after <= passed && self.below.wish().shows_data()
     }
 
     // How far the break has come; where one is due, it begins.
     fn standing(&self) -> Stage
         ensures { result ≡ standing S.meaning self.now }
     {
-        match self.stage {
+        match self.progress.stage {
             Stage::Through if self.is_due() => Stage::Saving,
             stage => stage,
         }
@@ -140,11 +117,18 @@ impl<S: Station> Breaker<S> {
     fn pass(&mut self, sent: u8)
         ensures { self.new ≡ passed_on S.meaning self.old sent }
     {
-        if self.below.wish().shows_data() && self.passed < self.after {
-            self.passed += 1;
+        if self.below.wish().shows_data() && self.progress.passed < self.progress.after {
+            self.progress.passed += 1;
         }
         self.below.told(sent);
     }
+}
+
+// A byte of a break, in Message In.
+fn says(message: Message) -> Wish
+    ensures { result ≡ Wish.Req Phase.MessageIn (message_byte message) Parity.Good }
+{
+    Wish::Req(Phase::MessageIn, u8::from(message), Parity::Good)
 }
 
 impl<S: Station> Station for Breaker<S> {
@@ -155,14 +139,14 @@ impl<S: Station> Station for Breaker<S> {
     fn wish(&self) -> Wish {
         match self.standing() {
             Stage::Through => self.below.wish(),
-            Stage::Saving => Wish::Req(Phase::MessageIn, SAVE_DATA_POINTER, Parity::Good),
-            Stage::Disconnecting => Wish::Req(Phase::MessageIn, DISCONNECT, Parity::Good),
+            Stage::Saving => says(Message::SaveDataPointer),
+            Stage::Disconnecting => says(Message::Disconnect),
             Stage::Leaving => Wish::Go,
             Stage::Returning => {
                 let own = self.below.address();
-                Wish::Back(own.encode().join(self.host.encode()), Parity::Good)
+                Wish::Back(own.encode().join(self.progress.host.encode()), Parity::Good)
             }
-            Stage::Identifying => Wish::Req(Phase::MessageIn, IDENTIFY, Parity::Good),
+            Stage::Identifying => says(Message::Identify),
         }
     }
 
@@ -171,22 +155,19 @@ impl<S: Station> Station for Breaker<S> {
     }
 
     fn chosen(&mut self, address: StationAddress, atn: bool) -> bool {
-        match self.standing() {
-            Stage::Through => self.below.chosen(address, atn),
-            _ => false,
-        }
+        self.standing() == Stage::Through && self.below.chosen(address, atn)
     }
 
     fn told(&mut self, sent: u8) {
         match self.standing() {
             Stage::Through => self.pass(sent),
-            Stage::Saving => self.stage = Stage::Disconnecting,
-            Stage::Disconnecting => self.stage = Stage::Leaving,
-            Stage::Leaving => self.stage = Stage::Returning,
-            Stage::Returning => self.stage = Stage::Identifying,
+            Stage::Saving => self.progress.stage = Stage::Disconnecting,
+            Stage::Disconnecting => self.progress.stage = Stage::Leaving,
+            Stage::Leaving => self.progress.stage = Stage::Returning,
+            Stage::Returning => self.progress.stage = Stage::Identifying,
             Stage::Identifying => {
-                self.stage = Stage::Through;
-                self.passed = 0;
+                self.progress.stage = Stage::Through;
+                self.progress.passed = 0;
             }
         }
     }
