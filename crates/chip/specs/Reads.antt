@@ -1,10 +1,10 @@
 -- Reading and writing registers and bytes of data, ticks and the reset: what each leaves and answers.
-use Rattle.std.specs.Prelude.{ℕ, ◌+◌, ◌-◌, ◌*◌, ◌/◌, ◌%◌, Bool, false, cond, not, ◌&&◌, ◌||◌, drop, is_some, Some, ◌==◌, bit_and, nat_lt, slice_index}
+use Rattle.std.specs.Prelude.{ℕ, ◌+◌, ◌-◌, ◌*◌, ◌/◌, ◌%◌, Bool, false, cond, not, ◌&&◌, ◌||◌, drop, is_some, Some, None, Option, ◌==◌, bit_and, nat_lt, slice_index}
 use Rattle.bus.specs.Phases.{phase_number}
 use Rattle.registers.specs.declared.answer.Reaction.TheVariants.{Nothing}
 use Rattle.registers.specs.declared.refusal.Refusal.TheVariants.{NoRegister, ReadOnly, ChipDisabled, Busy, NoByte, Dma}
 use Rattle.registers.specs.declared.register.Register.{Register}
-use Rattle.registers.specs.declared.register.Register.TheVariants.{Data, Command, Control, DestinationId, AuxiliaryStatus, Id, Interrupt, SourceId, DiagnosticStatus, CounterHigh, CounterMiddle, CounterLow, Missing}
+use Rattle.registers.specs.declared.register.Register.TheVariants.{Data, Command, Control, DestinationId, AuxiliaryStatus, Id, Interrupt, SourceId, DiagnosticStatus, CounterHigh, CounterMiddle, CounterLow}
 use Rattle.registers.specs.Commands.{code_of, command_of}
 use Rattle.registers.specs.Registers.{register_at}
 use Rattle.registers.specs.States.{is_busy, is_selecting, is_disabled}
@@ -55,11 +55,15 @@ read_register v DiagnosticStatus = shows 128 v
 read_register v CounterHigh = shows (v.registers.counter / 65536) v
 read_register v CounterMiddle = shows (v.registers.counter / 256 % 256) v
 read_register v CounterLow = shows (v.registers.counter % 256) v
-read_register v Missing = refused NoRegister v
+
+-- where there is no register, the read is refused
+abbrev pub read_at : View → Option Register → Outcome
+read_at v None = refused NoRegister v
+read_at v (Some r) = read_register v r
 
 -- a register read
 abbrev pub reads : View → ℕ → Outcome
-reads v a = cond (is_disabled v.state) (refused ChipDisabled v) (read_register v (register_at a))
+reads v a = cond (is_disabled v.state) (refused ChipDisabled v) (read_at v (register_at a))
 
 abbrev pub unless_busy : View → View → Outcome
 unless_busy v u = cond (is_busy v.state) (refused Busy v) (silent u)
@@ -77,7 +81,11 @@ write_register v DiagnosticStatus x = refused ReadOnly v
 write_register v CounterHigh x = unless_busy v (to_counter (x * 65536 + v.registers.counter % 65536) v)
 write_register v CounterMiddle x = unless_busy v (to_counter (v.registers.counter / 65536 * 65536 + x * 256 + v.registers.counter % 256) v)
 write_register v CounterLow x = unless_busy v (to_counter (v.registers.counter / 256 * 256 + x) v)
-write_register v Missing x = refused NoRegister v
+
+-- where there is no register, the write is refused
+abbrev pub write_at : View → Option Register → ℕ → Outcome
+write_at v None x = refused NoRegister v
+write_at v (Some r) x = write_register v r x
 
 -- Chip Reset written to Command, which a disabled chip takes too
 abbrev pub is_chip_reset : ℕ → ℕ → Bool
@@ -85,7 +93,7 @@ is_chip_reset a x = a == 1 && code_of x == 0
 
 -- a register write
 abbrev pub writes : View → ℕ → ℕ → Outcome
-writes v a x = cond (is_disabled v.state && not (is_chip_reset a x)) (refused ChipDisabled v) (write_register v (register_at a) x)
+writes v a x = cond (is_disabled v.state && not (is_chip_reset a x)) (refused ChipDisabled v) (write_at v (register_at a) x)
 
 -- what only a DMA transfer takes
 abbrev pub by_dma : View → Outcome → Outcome

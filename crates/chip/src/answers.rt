@@ -4,13 +4,10 @@ ghost use Rattle.bus.specs.Phases.{phase_number, in_data_in};
 ghost use Rattle.chip.specs.Model.{model};
 ghost use Rattle.chip.specs.Outcomes.{outcome, is_single, is_pad, left, in_dma, wants_byte, dreq, lines_of, quiet, valued, moved, loss, silent, tells, refused};
 
-use super::chip::Ncr5385e;
+use super::chip::{Loss, Ncr5385e};
 use bus::phase::Phase;
-use registers::answer::{Answer, Reaction, Response};
+use registers::answer::{ACK, ATN, Answer, CONNECTED, DREQ, INT, Reaction, Response};
 use registers::refusal::Refusal;
-
-// The number of the phase Data In.
-const DATA_IN: u8 = 4;
 
 // A bit that is on or off, with its weight.
 pub(crate) fn flag(on: bool, weight: u8) -> u8
@@ -38,7 +35,7 @@ impl Ncr5385e {
         ensures { result ≡ left (model self.now) }
     {
         if is_single(self.registers.command) {
-            self.single as u32
+            u32::from(self.single)
         } else {
             self.registers.counter
         }
@@ -67,24 +64,25 @@ impl Ncr5385e {
     }
 
     // The lines as an answer tells them, each with its weight; a disabled chip drives none.
+    #[tactic(auto, unfolding(crate::specs::Outcomes::lines_of))]
     pub fn lines(&self) -> u8
         ensures { result ≡ lines_of (model self.now) }
     {
         if self.state.is_disabled() {
             return 0;
         }
-        flag(self.registers.interrupt != 0, 1)
-            + flag(self.dreq(), 2)
-            + flag(self.flags.atn, 4)
-            + flag(self.flags.ack, 8)
-            + flag(self.state.is_connected(), 16)
+        flag(self.registers.interrupt != 0, INT)
+            + flag(self.dreq(), DREQ)
+            + flag(self.flags.atn, ATN)
+            + flag(self.flags.ack, ACK)
+            + flag(self.state.is_connected(), CONNECTED)
     }
 
     // How many received bytes of Data In the host has not read yet.
     pub fn held_data(&self) -> u8
         ensures { result ≡ length (in_data_in self.now.latched (model self.now).received) }
     {
-        if self.latched.number() == DATA_IN {
+        if self.latched == Phase::DataIn {
             self.received.len()
         } else {
             0
@@ -96,13 +94,8 @@ impl Ncr5385e {
         ensures { result ≡ quiet (model self.now) }
     {
         Answer {
-            refusal: 0,
-            value: 0,
             lines: self.lines(),
-            cable: 0,
-            byte: 0,
-            phase: 0,
-            lost: 0,
+            ..Answer::default()
         }
     }
 
@@ -112,7 +105,7 @@ impl Ncr5385e {
     {
         Answer {
             value,
-            phase: phase.number(),
+            phase: phase.into(),
             ..self.quiet()
         }
     }
@@ -124,19 +117,18 @@ impl Ncr5385e {
         Answer {
             cable,
             byte,
-            phase: phase.number(),
+            phase: phase.into(),
             lost,
             ..self.quiet()
         }
     }
 
-    // Bytes lost, with the number of their phase.
-    pub(crate) fn loss(&self, lost: u8, phase: u8) -> Answer
-        ensures { result ≡ loss lost phase (model self.now) }
+    pub(crate) fn loss(&self, lost: Loss) -> Answer
+        ensures { result ≡ loss lost.count lost.phase (model self.now) }
     {
         Answer {
-            phase,
-            lost,
+            phase: lost.phase,
+            lost: lost.count,
             ..self.quiet()
         }
     }
@@ -144,10 +136,7 @@ impl Ncr5385e {
     pub(crate) fn done(&self) -> Response
         ensures { outcome (model self.now) result ≡ silent (model self.now) }
     {
-        Response {
-            reaction: Reaction::Nothing,
-            answer: self.quiet(),
-        }
+        self.quiet().into()
     }
 
     pub(crate) fn tell(&self) -> Response
@@ -163,12 +152,9 @@ impl Ncr5385e {
         ensures { outcome (model self.now) result ≡ refused refusal (model self.now) }
     {
         let answer = Answer {
-            refusal: refusal.number(),
+            refusal: refusal.into(),
             ..self.quiet()
         };
-        Response {
-            reaction: Reaction::Nothing,
-            answer,
-        }
+        answer.into()
     }
 }

@@ -2,11 +2,12 @@
 ghost use Rattle.std.specs.Prelude.{◌≡◌};
 ghost use Rattle.chip.specs.Model.{model};
 ghost use Rattle.chip.specs.Outcomes.{outcome};
-ghost use Rattle.chip.specs.Reads.{status_of, shows, takes_data, puts_data, reads, is_chip_reset, writes, dma_reads, dma_writes, runs_out, ticks};
+ghost use Rattle.chip.specs.Reads.{status_of, shows, takes_data, puts_data, read_register, reads, is_chip_reset, write_register, writes, dma_reads, dma_writes, runs_out, ticks};
 
 use super::answers::flag;
 use super::chip::{Ncr5385e, Written};
-use registers::answer::{Answer, Reaction, Response};
+use registers::answer::{Answer, Response};
+use registers::cause::Cause;
 use registers::command::Command;
 use registers::refusal::Refusal;
 use registers::register::Register;
@@ -15,9 +16,6 @@ use registers::state::State;
 // What Diagnostic Status always shows.
 const DIAGNOSTIC: u8 = 0x80;
 
-// What the chip raises where a selection or a station has gone.
-const DISCONNECTED: u8 = 0x04;
-
 impl Ncr5385e {
     // Auxiliary Status: Full, Parity Error, the latched phase in three bits, Paused, Counter Zero.
     fn status(&self) -> u8
@@ -25,7 +23,7 @@ impl Ncr5385e {
     {
         flag(!self.received.is_empty() || self.written.is_some(), 128)
             + flag(self.flags.parity_error, 64)
-            + self.latched.number() * 8
+            + u8::from(self.latched) * 8
             + flag(self.flags.paused, 4)
             + flag(self.registers.counter == 0, 2)
     }
@@ -37,10 +35,7 @@ impl Ncr5385e {
             value,
             ..self.quiet()
         };
-        Response {
-            reaction: Reaction::Nothing,
-            answer,
-        }
+        answer.into()
     }
 
     // Reads the oldest received byte.
@@ -51,10 +46,7 @@ impl Ncr5385e {
             return self.refuse(Refusal::NoByte);
         }
         let byte = self.received.take();
-        Response {
-            reaction: Reaction::Nothing,
-            answer: self.valued(byte, self.latched),
-        }
+        self.valued(byte, self.latched).into()
     }
 
     // Writes a byte for the transfer under way.
@@ -68,10 +60,7 @@ impl Ncr5385e {
             byte: value,
             phase: self.latched,
         });
-        Response {
-            reaction: Reaction::Nothing,
-            answer: self.valued(0, self.latched),
-        }
+        self.valued(0, self.latched).into()
     }
 
     // A register read.
@@ -81,7 +70,16 @@ impl Ncr5385e {
         if self.state.is_disabled() {
             return self.refuse(Refusal::ChipDisabled);
         }
-        match Register::at(address) {
+        let Some(register) = Register::at(address) else {
+            return self.refuse(Refusal::NoRegister);
+        };
+        self.read_register(register)
+    }
+
+    fn read_register(&mut self, register: Register) -> Response
+        ensures { outcome (model self.new) result ≡ read_register (model self.old) register }
+    {
+        match register {
             Register::Data if self.in_dma() => self.refuse(Refusal::Dma),
             Register::Data => self.take_data(),
             Register::Command => self.show(self.registers.command),
@@ -100,7 +98,6 @@ impl Ncr5385e {
             Register::CounterHigh => self.show((self.registers.counter / 65536) as u8),
             Register::CounterMiddle => self.show((self.registers.counter / 256 % 256) as u8),
             Register::CounterLow => self.show((self.registers.counter % 256) as u8),
-            Register::Missing => self.refuse(Refusal::NoRegister),
         }
     }
 
@@ -108,7 +105,7 @@ impl Ncr5385e {
     fn is_chip_reset(address: u8, value: u8) -> bool
         ensures { result ≡ is_chip_reset address value }
     {
-        address == 1 && value & 31 == 0
+        address == u8::from(Register::Command) && value & 31 == 0
     }
 
     // A register write.
@@ -118,10 +115,19 @@ impl Ncr5385e {
         if self.state.is_disabled() && !Ncr5385e::is_chip_reset(address, value) {
             return self.refuse(Refusal::ChipDisabled);
         }
-        match Register::at(address) {
+        let Some(register) = Register::at(address) else {
+            return self.refuse(Refusal::NoRegister);
+        };
+        self.write_register(register, value)
+    }
+
+    fn write_register(&mut self, register: Register, value: u8) -> Response
+        ensures { outcome (model self.new) result ≡ write_register (model self.old) register value }
+    {
+        match register {
             Register::Data if self.in_dma() => self.refuse(Refusal::Dma),
             Register::Data => self.put_data(value),
-            Register::Command => self.obey(Command::of(value), value),
+            Register::Command => self.obey(Command::from(value), value),
             Register::Control => {
                 self.registers.control = value & 7;
                 self.done()
@@ -136,17 +142,17 @@ impl Ncr5385e {
                 self.done()
             }
             Register::CounterHigh => {
-                self.registers.counter = value as u32 * 65536 + self.registers.counter % 65536;
+                self.registers.counter = u32::from(value) * 65536 + self.registers.counter % 65536;
                 self.done()
             }
             Register::CounterMiddle => {
                 self.registers.counter = self.registers.counter / 65536 * 65536
-                    + value as u32 * 256
+                    + u32::from(value) * 256
                     + self.registers.counter % 256;
                 self.done()
             }
             Register::CounterLow => {
-                self.registers.counter = self.registers.counter / 256 * 256 + value as u32;
+                self.registers.counter = self.registers.counter / 256 * 256 + u32::from(value);
                 self.done()
             }
             Register::AuxiliaryStatus
@@ -154,7 +160,6 @@ impl Ncr5385e {
             | Register::Interrupt
             | Register::SourceId
             | Register::DiagnosticStatus => { self.refuse(Refusal::ReadOnly) }
-            Register::Missing => self.refuse(Refusal::NoRegister),
         }
     }
 
@@ -192,7 +197,7 @@ impl Ncr5385e {
         let reaction = self.dropping_ack();
         self.registers.counter = 0;
         self.go_idle();
-        self.registers.interrupt = DISCONNECTED;
+        self.registers.interrupt = Cause::Disconnected.into();
         Response {
             reaction,
             answer: self.quiet(),

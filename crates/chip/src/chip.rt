@@ -10,7 +10,7 @@ use registers::state::State;
 
 // The registers that can be written, and those that the chip sets.
 #[repr(C)]
-#[derive(Clone, Copy)]
+#[derive(Clone, Copy, Debug, Default, PartialEq, Eq)]
 pub struct Registers {
     pub command: u8,
     pub control: u8,
@@ -21,7 +21,7 @@ pub struct Registers {
 }
 
 // What is on or off beside the registers.
-#[derive(Clone, Copy)]
+#[derive(Clone, Copy, Debug, Default, PartialEq, Eq)]
 pub struct Flags {
     pub paused: bool,
     pub parity_error: bool,
@@ -29,7 +29,8 @@ pub struct Flags {
     pub ack: bool,
 }
 
-// Received bytes that the host has not read yet, oldest first.
+// Received bytes that the host has not read yet, oldest first. A buffer with its length: the chip is a plain value that is
+// copied whole, without a heap.
 #[derive(Clone, Copy)]
 pub struct Received {
     pub bytes: [u8; 2],
@@ -38,10 +39,17 @@ pub struct Received {
 }
 
 // A byte that the host wrote, and the phase of the transfer that it was written for.
-#[derive(Clone, Copy)]
+#[derive(Clone, Copy, Debug, PartialEq, Eq)]
 pub struct Written {
     pub byte: u8,
     pub phase: Phase,
+}
+
+// Bytes that a call loses: how many, and the number of the phase in which they came. Both are zero where there are none.
+#[derive(Clone, Copy, Debug, Default, PartialEq, Eq)]
+pub(crate) struct Loss {
+    pub(crate) count: u8,
+    pub(crate) phase: u8,
 }
 
 #[derive(Clone, Copy)]

@@ -1,21 +1,19 @@
 // The commands of the chip, and what it does to be new, idle or disabled.
-ghost use Rattle.std.specs.Prelude.{◌≡◌, false};
+ghost use Rattle.std.specs.Prelude.{◌≡◌, true, false, is_some, if◌then◌else◌};
 ghost use Rattle.registers.specs.States.{is_transferring};
 ghost use Rattle.chip.specs.Model.{model};
 ghost use Rattle.chip.specs.Orders.{resets, accepted, started, offered, disconnects, pauses, shut_down, disables, commanded};
-ghost use Rattle.chip.specs.Outcomes.{outcome, dropping_ack, gone_idle, emptied, made_new, held_count, held_phase};
+ghost use Rattle.chip.specs.Outcomes.{outcome, dropping_ack, gone_idle, emptied, made_new, written_phase, held_count, held_phase};
 
 use super::answers::is_single;
-use super::chip::{Flags, Ncr5385e, Received, Registers};
+use super::chip::{Flags, Loss, Ncr5385e, Received, Registers};
 use bus::address::StationAddress;
 use bus::phase::Phase;
 use registers::answer::{Reaction, Response};
+use registers::cause::Cause;
 use registers::command::Command;
 use registers::refusal::Refusal;
 use registers::state::State;
-
-// What the chip raises where a state does not have a command.
-const INVALID_COMMAND: u8 = 0x40;
 
 impl Ncr5385e {
     // Off the cable, with all registers at their first values.
@@ -28,23 +26,11 @@ impl Ncr5385e {
             latched: Phase::DataOut,
             single: 0,
             registers: Registers {
-                command: 0,
-                control: 0,
-                destination: 0,
-                counter: 0,
-                interrupt: 0,
                 source: 7,
+                ..Registers::default()
             },
-            flags: Flags {
-                paused: false,
-                parity_error: false,
-                atn: false,
-                ack: false,
-            },
-            received: Received {
-                bytes: [0; 2],
-                count: 0,
-            },
+            flags: Flags::default(),
+            received: Received::new(),
             written: None,
         }
     }
@@ -60,62 +46,44 @@ impl Ncr5385e {
         }
     }
 
-    fn held_count(&self) -> u8
-        ensures { result ≡ held_count (model self.now).received self.now.written }
+    // The written byte, where there is one.
+    fn written_byte(&self) -> Loss
+        ensures count { result.count ≡ (if is_some self.now.written then 1 else 0) }
+        ensures phase { result.phase ≡ written_phase self.now.written }
     {
-        if !self.received.is_empty() {
-            return self.received.len();
-        }
-        if self.written.is_some() {
-            return 1;
-        }
-        0
-    }
-
-    fn held_phase(&self) -> u8
-        ensures { result ≡ held_phase self.now.latched (model self.now).received self.now.written }
-    {
-        if !self.received.is_empty() {
-            return self.latched.number();
-        }
         match self.written {
-            None => 0,
-            Some(written) => written.phase.number(),
+            None => Loss::default(),
+            Some(written) => Loss {
+                count: 1,
+                phase: written.phase.into(),
+            },
         }
     }
 
-    // The chip as new.
-    fn renew(&mut self)
-        ensures { model self.new ≡ made_new self.old.id.number }
+    // All that is held: received bytes, or else a written one.
+    fn held_bytes(&self) -> Loss
+        ensures count { result.count ≡ held_count (model self.now).received self.now.written }
+        ensures phase { result.phase ≡ held_phase self.now.latched (model self.now).received self.now.written }
     {
-        self.received.clear();
-        self.written = None;
-        self.state = State::Idle;
-        self.latched = Phase::DataOut;
-        self.single = 0;
-        self.registers.command = 0;
-        self.registers.control = 0;
-        self.registers.destination = 0;
-        self.registers.counter = 0;
-        self.registers.interrupt = 0;
-        self.registers.source = 7;
-        self.flags.paused = false;
-        self.flags.parity_error = false;
-        self.flags.atn = false;
-        self.flags.ack = false;
+        if self.received.is_empty() {
+            return self.written_byte();
+        }
+        Loss {
+            count: self.received.len(),
+            phase: self.latched.into(),
+        }
     }
 
     // All that is held is lost, and the chip is as new but for its ID.
     pub fn reset(&mut self) -> Response
         ensures { outcome (model self.new) result ≡ resets (model self.old) }
     {
-        let lost = self.held_count();
-        let phase = self.held_phase();
+        let lost = self.held_bytes();
         let reaction = self.dropping_ack();
-        self.renew();
+        *self = Ncr5385e::new(self.id);
         Response {
             reaction,
-            answer: self.loss(lost, phase),
+            answer: self.loss(lost),
         }
     }
 
@@ -142,14 +110,13 @@ impl Ncr5385e {
     fn disconnect(&mut self) -> Response
         ensures { outcome (model self.new) result ≡ disconnects (model self.old) }
     {
-        let lost = self.held_count();
-        let phase = self.held_phase();
+        let lost = self.held_bytes();
         let reaction = self.dropping_ack();
         self.empty();
         self.go_idle();
         Response {
             reaction,
-            answer: self.loss(lost, phase),
+            answer: self.loss(lost),
         }
     }
 
@@ -179,43 +146,49 @@ impl Ncr5385e {
     fn disable(&mut self) -> Response
         ensures { outcome (model self.new) result ≡ disables (model self.old) }
     {
-        let lost = self.held_count();
-        let phase = self.held_phase();
+        let lost = self.held_bytes();
         let reaction = self.dropping_ack();
         self.shut_down();
         Response {
             reaction,
-            answer: self.loss(lost, phase),
+            answer: self.loss(lost),
         }
     }
 
-    // A command is accepted: it begins where the state has it, and else raises 40h.
-    fn begin(&mut self, known: bool, next: State, value: u8) -> Response
-        requires { (self.old.received.count ≡ 0) × ((self.old.registers.interrupt ≡ 0) × ((is_transferring self.old.state ≡ false) × (self.old.flags.ack ≡ false))) }
-        ensures { outcome (model self.new) result ≡ started known next (model self.old) value }
+    // A command is accepted: a written byte is lost, and Paused cleared.
+    fn accept(&mut self) -> Loss
+        ensures after { model self.new ≡ accepted (model self.old) }
+        ensures chip { self.new.received ≡ self.old.received }
+        ensures count { result.count ≡ (if is_some self.old.written then 1 else 0) }
+        ensures phase { result.phase ≡ written_phase self.old.written }
     {
-        let phase = match self.written {
-            None => 0,
-            Some(written) => written.phase.number(),
-        };
-        let lost = if self.written.is_some() { 1 } else { 0 };
+        let lost = self.written_byte();
         self.written = None;
         self.flags.paused = false;
-        if known {
-            self.state = next;
-            self.registers.command = value;
-            self.single = if is_single(value) { 1 } else { 0 };
-            return Response {
-                reaction: Reaction::Nothing,
-                answer: self.loss(lost, phase),
-            };
-        }
+        lost
+    }
+
+    // A command that the state has begins.
+    fn begin(&mut self, next: State, value: u8) -> Response
+        requires { (self.old.received.count ≡ 0) × ((self.old.registers.interrupt ≡ 0) × ((is_transferring self.old.state ≡ false) × (self.old.flags.ack ≡ false))) }
+        ensures { outcome (model self.new) result ≡ started true next (model self.old) value }
+    {
+        let lost = self.accept();
+        self.state = next;
+        self.registers.command = value;
+        self.single = u8::from(is_single(value));
+        self.loss(lost).into()
+    }
+
+    // Any other is accepted too, and raises Invalid Command.
+    fn begin_nothing(&mut self) -> Response
+        requires { is_transferring self.old.state ≡ false }
+        ensures { outcome (model self.new) result ≡ started false self.old.state (model self.old) 0 }
+    {
+        let lost = self.accept();
         self.registers.command = 0;
-        self.registers.interrupt = INVALID_COMMAND;
-        Response {
-            reaction: Reaction::Nothing,
-            answer: self.loss(lost, phase),
-        }
+        self.registers.interrupt = Cause::InvalidCommand.into();
+        self.loss(lost).into()
     }
 
     // A code from 08h on.
@@ -226,8 +199,9 @@ impl Ncr5385e {
             return self.refuse(Refusal::InterruptPending);
         }
         match self.state {
-            State::Idle => self.begin(command.is_select(), State::Arbitrating, value),
-            State::Asked => self.begin(command.is_transfer(), State::Transferring, value),
+            State::Idle if command.is_select() => self.begin(State::Arbitrating, value),
+            State::Asked if command.is_transfer() => self.begin(State::Transferring, value),
+            State::Idle | State::Asked => self.begin_nothing(),
             State::Arbitrating
             | State::Selecting
             | State::Waiting

@@ -10,6 +10,16 @@ use super::chip::Received;
 const PLACES: usize = 2;
 
 impl Received {
+    pub(crate) fn new() -> Self
+        ensures items { items result ≡ [] }
+        ensures count { result.count ≡ 0 }
+    {
+        Received {
+            bytes: [0; PLACES],
+            count: 0,
+        }
+    }
+
     pub(crate) fn is_empty(&self) -> bool
         ensures value { result ≡ is_empty (items self.now) }
         ensures none { result ≡ true → self.now.count ≡ 0 }

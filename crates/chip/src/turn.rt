@@ -10,22 +10,14 @@ ghost use Rattle.chip.specs.Turns.{ack_turn, counted_down, kept, took, discards_
 
 use super::answers::{is_pad, is_single};
 use super::chip::{Ncr5385e, Written};
-use bus::address::IdByte;
+use bus::address::{IdByte, StationAddress};
 use bus::parity::Parity;
 use bus::phase::Phase;
 use bus::wish::Wish;
 use registers::answer::{Reaction, Response};
+use registers::cause::Cause;
 use registers::refusal::Refusal;
 use registers::state::State;
-
-// What the chip raises.
-const FUNCTION_COMPLETE: u8 = 0x01;
-
-const BUS_SERVICE: u8 = 0x02;
-
-const DISCONNECTED: u8 = 0x04;
-
-const RESELECTED: u8 = 0x10;
 
 // The code of Select with ATN.
 const SELECT_WITH_ATN: u8 = 0x08;
@@ -56,7 +48,7 @@ impl Ncr5385e {
                         self.registers.source = 0x80 + station;
                         self.state = State::Waiting;
                         self.registers.command = 0;
-                        self.registers.interrupt = RESELECTED;
+                        self.registers.interrupt = Cause::Reselected.into();
                         self.tell()
                     }
                     None => self.done(),
@@ -76,18 +68,18 @@ impl Ncr5385e {
                 self.ask(phase);
                 self.done()
             }
-            (State::Asked, Wish::Req(phase, _, _)) if !phase.is(self.latched) => {
+            (State::Asked, Wish::Req(phase, _, _)) if phase != self.latched => {
                 self.ask(phase);
                 self.done()
             }
-            (State::Waiting | State::Asked, Wish::Hold(phase)) if !phase.is(self.latched) => {
+            (State::Waiting | State::Asked, Wish::Hold(phase)) if phase != self.latched => {
                 self.ask(phase);
                 self.tell()
             }
             (State::Waiting | State::Asked, Wish::Hold(_)) => self.tell(),
             (State::Waiting | State::Asked, Wish::Go) => self.let_go(),
             (State::Transferring, Wish::Req(phase, byte, parity))
-                if phase.is(self.latched) && self.left() > 0 => {
+                if phase == self.latched && self.left() > 0 => {
                 if self.latched.is_input() {
                     self.take(byte, parity)
                 } else {
@@ -99,7 +91,7 @@ impl Ncr5385e {
                 self.done()
             }
             (State::Transferring, Wish::Hold(phase))
-                if self.received.is_empty() && !phase.is(self.latched) => {
+                if self.received.is_empty() && phase != self.latched => {
                 self.ask(phase);
                 self.tell()
             }
@@ -121,14 +113,8 @@ impl Ncr5385e {
     pub fn hear_yes(&mut self)
         ensures { model self.new ≡ heard_yes (model self.old) }
     {
-        match self.state {
-            State::Selecting => self.complete(),
-            State::Idle
-            | State::Arbitrating
-            | State::Waiting
-            | State::Asked
-            | State::Transferring
-            | State::Disabled => {}
+        if self.state == State::Selecting {
+            self.complete();
         }
     }
 
@@ -148,10 +134,7 @@ impl Ncr5385e {
         ensures value { result ≡ decoded self.now.id.number id.bits }
         ensures bound { IfSome result (λ n. n < 8) }
     {
-        match id.decode(self.id) {
-            Some(station) => Some(station.number()),
-            None => None,
-        }
+        id.decode(self.id).map(StationAddress::number)
     }
 
     // A phase is latched.
@@ -162,7 +145,7 @@ impl Ncr5385e {
         self.state = State::Asked;
         self.latched = phase;
         self.registers.command = 0;
-        self.registers.interrupt = BUS_SERVICE;
+        self.registers.interrupt = Cause::BusService.into();
     }
 
     // A command is done, and the chip connected.
@@ -172,7 +155,7 @@ impl Ncr5385e {
     {
         self.state = State::Waiting;
         self.registers.command = 0;
-        self.registers.interrupt = FUNCTION_COMPLETE;
+        self.registers.interrupt = Cause::FunctionComplete.into();
     }
 
     // The station dropped BSY.
@@ -181,7 +164,7 @@ impl Ncr5385e {
         ensures { outcome (model self.new) result ≡ let_go (model self.old) }
     {
         self.go_idle();
-        self.registers.interrupt = DISCONNECTED;
+        self.registers.interrupt = Cause::Disconnected.into();
         self.tell()
     }
 
@@ -216,7 +199,7 @@ impl Ncr5385e {
         requires { is_transferring self.old.state ≡ true }
         ensures { outcome (model self.new) result ≡ took (model self.old) byte lost }
     {
-        if self.left() == 0 && self.latched.is(Phase::MessageIn) {
+        if self.left() == 0 && self.latched == Phase::MessageIn {
             self.flags.ack = true;
             return Response {
                 reaction: Reaction::Nothing,
@@ -230,6 +213,7 @@ impl Ncr5385e {
     }
 
     // Takes an input byte from the cable: Pad loses it, Info keeps it if there is a place.
+    #[tactic(auto, unfolding(crate::specs::Turns::takes))]
     fn take(&mut self, byte: u8, parity: Parity) -> Response
         requires { (is_transferring self.old.state ≡ true) × (is_input self.old.latched ≡ true) }
         ensures { outcome (model self.new) result ≡ takes (model self.old) byte parity }
@@ -264,7 +248,7 @@ impl Ncr5385e {
     fn end_message(&mut self)
         ensures { model self.new ≡ ended_message (model self.old) }
     {
-        if self.left() == 0 && self.latched.is(Phase::MessageOut) {
+        if self.left() == 0 && self.latched == Phase::MessageOut {
             self.flags.atn = false;
         }
     }
@@ -279,6 +263,7 @@ impl Ncr5385e {
     }
 
     // Sends the written byte, if there is one.
+    #[tactic(auto, unfolding(crate::specs::Turns::sends))]
     fn send(&mut self) -> Response
         ensures { outcome (model self.new) result ≡ sends (model self.old) }
     {

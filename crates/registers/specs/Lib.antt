@@ -4,4 +4,5 @@ pub mod Commands
 pub mod Refusals
 pub mod Causes
 pub mod Calls
+pub mod Answers
 pub mod Runs

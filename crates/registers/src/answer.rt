@@ -1,4 +1,5 @@
 // What a call answers, and what it asks of the station.
+ghost use Rattle.registers.specs.Answers.{HeardByNone};
 
 // The lines of an answer, each by its weight.
 pub const INT: u8 = 0x01;
@@ -46,4 +47,16 @@ pub enum Reaction {
 pub struct Response {
     pub reaction: Reaction,
     pub answer: Answer,
+}
+
+// An answer of which the station hears nothing.
+impl From<Answer> for Response {
+    ghost from_gives = { HeardByNone };
+
+    fn from(answer: Answer) -> Response {
+        Response {
+            reaction: Reaction::Nothing,
+            answer,
+        }
+    }
 }
