@@ -12,8 +12,9 @@ use Rattle.registers.specs.declared.state.State.TheVariants.{Idle, Arbitrating, 
 use Rattle.registers.specs.States.{is_transferring}
 use Rattle.chip.specs.Outcomes.{gives, heard_in, heard_yes}
 use Rattle.chip.specs.Views.{View}
-use Rattle.account.specs.Laws.{Call, step_of}
-use Rattle.account.specs.Laws.Call.{read, write, dma_read, dma_write, tick, turn, reset}
+use Rattle.registers.specs.declared.call.Call.{Call}
+use Rattle.account.specs.Laws.{step_of}
+use Rattle.registers.specs.declared.call.Call.TheVariants.{Read as read, Write as write, DmaRead as dma_read, DmaWrite as dma_write, Tick as tick, Turn as turn, Reset as reset}
 use Rattle.account.specs.Lines.{Line, line}
 use Rattle.account.specs.Steps.{Step, step, heard, joins, chosen_step, turns_to}
 use Rattle.account.specs.Fates.{Entry, entry, held, Share, Fates, History, EveryFate, GoesOn}

@@ -2,16 +2,18 @@
 use Rattle.std.proofs.Common.{◌≡◌, ℕ, List, [], ◌∷◌, ◌++◌, Some, None, Ok, Err, Option, Result, sym, subst, append_assoc, append-nil}
 use Rattle.bus.specs.Meaning.{Meaning, Lawful}
 use Rattle.registers.specs.declared.answer.Answer.{Answer}
-use Rattle.registers.specs.declared.call.Call.{Call as Row}
+use Rattle.registers.specs.declared.call.CallRow.{CallRow as Row}
 use Rattle.registers.specs.declared.call.Ran.{Ran}
 use Rattle.registers.specs.declared.call.RunRefusal.{RunRefusal}
 use Rattle.chip.specs.Outcomes.{made_new}
 use Rattle.account.specs.Accounts.{Account, KeepsAccount, RunGoesOn}
 use Rattle.account.specs.Fates.{Entry, entry, History}
 use Rattle.account.specs.Fates.History.{begun, called}
-use Rattle.account.specs.Laws.{Call, step_of}
+use Rattle.registers.specs.declared.call.Call.{Call}
+use Rattle.account.specs.Laws.{step_of}
 use Rattle.account.specs.Lines.{Line, line}
-use Rattle.account.specs.Runs.{call_of, listed_step, noted, walked, joining, recorded, RunSays}
+use Rattle.registers.specs.Calls.{call_of}
+use Rattle.account.specs.Runs.{listed_step, noted, walked, joining, recorded, RunSays}
 use Rattle.account.proofs.Account.{every_fate}
 
 -- what there is to say of a string, said of what was put up and answered in other words

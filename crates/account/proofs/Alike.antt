@@ -7,15 +7,17 @@ use Rattle.bus.specs.declared.wish.Wish.{Wish}
 use Rattle.registers.specs.declared.answer.Answer.{Answer}
 use Rattle.registers.specs.declared.answer.Reaction.{Reaction}
 use Rattle.registers.specs.declared.answer.Reaction.TheVariants.{Nothing, Tell, Choose}
-use Rattle.registers.specs.declared.call.Call.{Call as Row}
+use Rattle.registers.specs.declared.call.CallRow.{CallRow as Row}
 use Rattle.chip.specs.Outcomes.{Outcome, quiet, heard_yes}
 use Rattle.chip.specs.Turns.{turned}
 use Rattle.chip.specs.Views.{View}
 use Rattle.account.specs.Alike.{SeenAs, seen}
-use Rattle.account.specs.Laws.{Call, step_of}
-use Rattle.account.specs.Laws.Call.{read, write, dma_read, dma_write, tick, turn, reset}
+use Rattle.registers.specs.declared.call.Call.{Call}
+use Rattle.account.specs.Laws.{step_of}
+use Rattle.registers.specs.declared.call.Call.TheVariants.{Read as read, Write as write, DmaRead as dma_read, DmaWrite as dma_write, Tick as tick, Turn as turn, Reset as reset}
 use Rattle.account.specs.Lines.{Line, line}
-use Rattle.account.specs.Runs.{call_of, listed_step, row_step, walked, answered}
+use Rattle.registers.specs.Calls.{call_of}
+use Rattle.account.specs.Runs.{listed_step, row_step, walked, answered}
 use Rattle.account.specs.Steps.{Step, step, heard, call_step, chosen_step, turns_to}
 
 module _ {S V : Type 0} (m : Meaning S) (n : Meaning V) (view : S → V) (like : SeenAs m n view) where

@@ -1,5 +1,5 @@
 -- Registers, commands, DMA, ticks and the reset keep the laws at the chip.
-use Rattle.std.proofs.Common.{◌≡◌, ℕ, ◌-◌, Bool, true, false, cond, not, ◌&&◌, eqb, ltb, List, [], ◌∷◌, get_or, drop, refl, ◌∙◌, true≢false, append-nil}
+use Rattle.std.proofs.Common.{◌≡◌, ℕ, ◌-◌, Bool, true, false, cond, not, ◌&&◌, eqb, ltb, List, [], ◌∷◌, get_or, drop, Some, None, Option, refl, ◌∙◌, true≢false, append-nil}
 use mathlib.Core.Bool.{false≢true}
 use Rattle.bus.specs.Phases.{phase_number}
 use Rattle.registers.specs.declared.answer.Reaction.TheVariants.{Nothing}
@@ -7,7 +7,7 @@ use Rattle.registers.specs.declared.command.Command.{Command}
 use Rattle.registers.specs.declared.command.Command.TheVariants.{ChipReset, Disconnect, Pause, SetAtn, MessageAccepted, ChipDisable, Unused, Select, Transfer, Invalid}
 use Rattle.registers.specs.declared.refusal.Refusal.TheVariants.{NoRegister, ReadOnly, ChipDisabled, InterruptPending, Busy, NoByte, Dma}
 use Rattle.registers.specs.declared.register.Register.{Register}
-use Rattle.registers.specs.declared.register.Register.TheVariants.{Data, Command as CommandRegister, Control, DestinationId, AuxiliaryStatus, Id, Interrupt, SourceId, DiagnosticStatus, CounterHigh, CounterMiddle, CounterLow, Missing}
+use Rattle.registers.specs.declared.register.Register.TheVariants.{Data, Command as CommandRegister, Control, DestinationId, AuxiliaryStatus, Id, Interrupt, SourceId, DiagnosticStatus, CounterHigh, CounterMiddle, CounterLow}
 use Rattle.registers.specs.declared.state.State.{State}
 use Rattle.registers.specs.declared.state.State.TheVariants.{Idle, Arbitrating, Selecting, Waiting, Asked, Transferring, Disabled}
 use Rattle.registers.specs.Commands.{command_of, is_select, is_transfer}
@@ -15,9 +15,9 @@ use Rattle.registers.specs.Registers.{register_at}
 use Rattle.registers.specs.States.{is_busy, is_connected, is_free, is_selecting, is_disabled}
 use Rattle.chip.specs.Orders.{resets, accepted, starts, started, accepts, offered, commanded}
 use Rattle.chip.specs.Outcomes.{gives, silent, refused, dropping_ack, raised, gone_idle, in_dma, wants_byte, is_empty, quiet, valued}
-use Rattle.chip.specs.Reads.{shifted, takes_data, writing, puts_data, cleared, read_register, reads, write_register, is_chip_reset, writes, dma_reads, dma_writes, ticks}
+use Rattle.chip.specs.Reads.{shifted, takes_data, writing, puts_data, cleared, read_register, read_at, reads, write_register, write_at, is_chip_reset, writes, dma_reads, dma_writes, ticks}
 use Rattle.chip.specs.Views.{View, to_counter, to_atn, to_ack, to_paused, to_control, to_destination}
-use Rattle.account.specs.RefusalTable.{first, is_data, is_command, discards, takes_command, read_rows, read_table, command_rows, write_rows, write_table, dma_read_table, dma_write_table, clock_table}
+use Rattle.account.specs.RefusalTable.{first, there, rows_at, is_data, is_command, discards, takes_command, read_rows, read_table, command_rows, write_rows, write_table, dma_read_table, dma_write_table, clock_table}
 use Rattle.account.proofs.Fair.{Fair, either, unless, whether, refuses, plain, stays, hears, loses}
 
 -- the oldest byte, and the others
@@ -53,10 +53,13 @@ module _ (v : View) where
   read_of CounterHigh = plain v Nothing _ refl refl refl refl
   read_of CounterMiddle = plain v Nothing _ refl refl refl refl
   read_of CounterLow = plain v Nothing _ refl refl refl refl
-  read_of Missing = refuses NoRegister
 
-  pub read_fair : (a : ℕ) → Fair (is_data (register_at a)) false v (first (read_table v a)) (reads v a)
-  read_fair a = either (is_disabled v.state) (λ _. refuses ChipDisabled) (λ _. read_of (register_at a))
+  read_there : (o : Option Register) → Fair (there is_data o) false v (first (rows_at v (read_rows v) o)) (read_at v o)
+  read_there None = refuses NoRegister
+  read_there (Some r) = read_of r
+
+  pub read_fair : (a : ℕ) → Fair (there is_data (register_at a)) false v (first (read_table v a)) (reads v a)
+  read_fair a = either (is_disabled v.state) (λ _. refuses ChipDisabled) (λ _. read_there (register_at a))
 
   start : {losing : Bool} (known : Bool) (s : State) (x : ℕ) → Fair false losing v 0 (started known s v x)
   start true s x = plain (starts s x v) Nothing _ refl refl refl refl
@@ -105,10 +108,13 @@ module _ (v : View) where
   write_of CounterHigh x = set_first (to_counter _ v) refl
   write_of CounterMiddle x = set_first (to_counter _ v) refl
   write_of CounterLow x = set_first (to_counter _ v) refl
-  write_of Missing x = refuses NoRegister
 
-  pub write_fair : (a x : ℕ) → Fair false (is_command (register_at a) && discards (command_of x)) v (first (write_table v a x)) (writes v a x)
-  write_fair a x = either (is_disabled v.state && not (is_chip_reset a x)) (λ _. refuses ChipDisabled) (λ _. write_of (register_at a) x)
+  write_there : (o : Option Register) (x : ℕ) → Fair false (there is_command o && discards (command_of x)) v (first (rows_at v (λ r. write_rows v r (command_of x)) o)) (write_at v o x)
+  write_there None x = refuses NoRegister
+  write_there (Some r) x = write_of r x
+
+  pub write_fair : (a x : ℕ) → Fair false (there is_command (register_at a) && discards (command_of x)) v (first (write_table v a x)) (writes v a x)
+  write_fair a x = either (is_disabled v.state && not (is_chip_reset a x)) (λ _. refuses ChipDisabled) (λ _. write_there (register_at a) x)
 
   pub dma_read_fair : Fair true false v (first (dma_read_table v)) (dma_reads v)
   dma_read_fair = either (is_disabled v.state) (λ _. refuses ChipDisabled) (λ _. unless (in_dma v) (λ _. takes) (λ _. refuses Dma))

@@ -16,7 +16,7 @@ use Rattle.chip.specs.Views.{View}
 use Rattle.account.specs.Fates.{entry, Share, held}
 use Rattle.account.specs.Sound.{Sound, SoundOf, Outward}
 use Rattle.registers.specs.States.{is_transferring}
-use Rattle.account.specs.Laws.{Call}
+use Rattle.registers.specs.declared.call.Call.{Call}
 
 -- what leaves the station's list
 abbrev pub taken : Wish → Reaction → List ℕ

@@ -13,8 +13,9 @@ use Rattle.chip.specs.Turns.{turned}
 use Rattle.chip.specs.Views.{View}
 use Rattle.account.specs.Lines.{Line, line}
 use Rattle.account.specs.Steps.{Step, step, heard, joins, call_step, chosen_step, turns_to}
-use Rattle.account.specs.Laws.{Call, step_of, refusal_of, bare, came_in, went_out, reads_data, may_lose, Keeps, Laws}
-use Rattle.account.specs.Laws.Call.{read, write, dma_read, dma_write, tick, turn, reset}
+use Rattle.registers.specs.declared.call.Call.{Call}
+use Rattle.account.specs.Laws.{step_of, refusal_of, bare, came_in, went_out, reads_data, may_lose, Keeps, Laws}
+use Rattle.registers.specs.declared.call.Call.TheVariants.{Read as read, Write as write, DmaRead as dma_read, DmaWrite as dma_write, Tick as tick, Turn as turn, Reset as reset}
 use Rattle.account.proofs.Fair.{Fair, is_choose}
 use Rattle.account.proofs.FairRegisters.{read_fair, write_fair, dma_read_fair, dma_write_fair, tick_fair, reset_fair}
 use Rattle.account.proofs.FairTurn.{turn_fair}

@@ -8,7 +8,7 @@ use Rattle.bus.specs.declared.wish.Wish.{Wish}
 use Rattle.registers.specs.declared.state.State.{State}
 use Rattle.registers.specs.declared.state.State.TheVariants.{Idle, Arbitrating, Selecting, Waiting, Asked, Transferring, Disabled}
 use Rattle.registers.specs.declared.register.Register.{Register}
-use Rattle.registers.specs.declared.register.Register.TheVariants.{Data, Command as CommandRegister, Control, DestinationId, AuxiliaryStatus, Id, Interrupt, SourceId, DiagnosticStatus, CounterHigh, CounterMiddle, CounterLow, Missing}
+use Rattle.registers.specs.declared.register.Register.TheVariants.{Data, Command as CommandRegister, Control, DestinationId, AuxiliaryStatus, Id, Interrupt, SourceId, DiagnosticStatus, CounterHigh, CounterMiddle, CounterLow}
 use Rattle.registers.specs.declared.command.Command.{Command}
 use Rattle.registers.specs.declared.command.Command.TheVariants.{ChipReset, Disconnect, Pause, SetAtn, MessageAccepted, ChipDisable, Unused, Select, Transfer, Invalid}
 use Rattle.chip.specs.declared.chip.Written.{Written}
@@ -22,16 +22,17 @@ use Rattle.bus.specs.Phases.{phase_number, is_input, in_data_in}
 use Rattle.chip.specs.Orders.{resets, started, accepts, offered, shut_down, commanded}
 use Rattle.chip.specs.Outcomes.{Outcome, gives, silent, refused, dropping_ack, raised, gone_idle, emptied, made_new, held_count, held_phase, written_phase, losing, quiet, valued, loss, is_empty, in_dma, wants_byte}
 use Rattle.chip.specs.Places.{places}
-use Rattle.chip.specs.Reads.{shows, takes_data, puts_data, cleared, read_register, reads, unless_busy, write_register, is_chip_reset, writes, by_dma, dma_reads, dma_writes, ticks}
+use Rattle.chip.specs.Reads.{shows, takes_data, puts_data, cleared, read_register, read_at, reads, unless_busy, write_register, write_at, is_chip_reset, writes, by_dma, dma_reads, dma_writes, ticks}
 use Rattle.chip.specs.Views.{View, to_control, to_destination, to_counter, to_paused, to_atn, to_ack, to_received}
 use Rattle.account.specs.Fates.{entry, Share, held}
 use Rattle.account.specs.Sound.{SoundOf, Outward}
 use Rattle.registers.specs.Commands.{command_of, is_select, is_transfer}
 use Rattle.registers.specs.Registers.{register_at}
 use Rattle.registers.specs.States.{is_transferring, is_busy, is_connected, is_free, is_selecting, is_disabled}
-use Rattle.account.specs.Laws.Call.{read, write, dma_read, dma_write, tick, reset}
-use Rattle.account.specs.RefusalTable.{is_data, is_command, discards}
-use Rattle.account.specs.Laws.{Call, reads_data, may_lose}
+use Rattle.registers.specs.declared.call.Call.TheVariants.{Read as read, Write as write, DmaRead as dma_read, DmaWrite as dma_write, Tick as tick, Reset as reset}
+use Rattle.account.specs.RefusalTable.{there, is_data, is_command, discards}
+use Rattle.registers.specs.declared.call.Call.{Call}
+use Rattle.account.specs.Laws.{reads_data, may_lose}
 
 free_rests : (s : State) → is_free s ≡ true → is_transferring s ≡ false
 free_rests Idle e = refl
@@ -156,7 +157,10 @@ module _ (c : Call) (v : View) (w : Wish) (h : SoundOf v) (q : Quiet v.flags.ack
   read_of CounterHigh r = show _
   read_of CounterMiddle r = show _
   read_of CounterLow r = show _
-  read_of Missing r = no NoRegister
+
+  read_there : (o : Option Register) → (o ≡ Some Data → reads_data c ≡ true) → Fate c v w (read_at v o)
+  read_there None r = no NoRegister
+  read_there (Some n) r = read_of n (λ e. r (ap (λ m. Some m) e))
 
   write_of : reads_data c ≡ false → (n : Register) (x : ℕ) → (n ≡ CommandRegister → Fate c v w (commanded v (command_of x) x)) → Fate c v w (write_register v n x)
   write_of r Data x t = either (in_dma v) (λ _. no Dma) (λ _. puts r x)
@@ -171,22 +175,25 @@ module _ (c : Call) (v : View) (w : Wish) (h : SoundOf v) (q : Quiet v.flags.ack
   write_of r CounterHigh x t = if_idle _ (stays (to_counter _ v) h refl q)
   write_of r CounterMiddle x t = if_idle _ (stays (to_counter _ v) h refl q)
   write_of r CounterLow x t = if_idle _ (stays (to_counter _ v) h refl q)
-  write_of r Missing x t = no NoRegister
+
+  write_there : reads_data c ≡ false → (o : Option Register) (x : ℕ) → (o ≡ Some CommandRegister → Fate c v w (commanded v (command_of x) x)) → Fate c v w (write_at v o x)
+  write_there r None x t = no NoRegister
+  write_there r (Some n) x t = write_of r n x (λ e. t (ap (λ m. Some m) e))
 
   by_dma_fate : (o : Outcome) → Fate c v w o → Fate c v w (by_dma v o)
   by_dma_fate o t = either (is_disabled v.state) (λ _. no ChipDisabled) (λ _. either (in_dma v) (λ _. t) (λ _. no Dma))
 
 module _ (v : View) (w : Wish) (h : SoundOf v) (q : Quiet v.flags.ack w) where
   pub read_fate : (a : ℕ) → Fate (read a) v w (reads v a)
-  read_fate a = either (is_disabled v.state) (λ _. no (read a) v w h q ChipDisabled) (λ _. read_of (read a) v w h q (register_at a) (λ e. ap is_data e))
+  read_fate a = either (is_disabled v.state) (λ _. no (read a) v w h q ChipDisabled) (λ _. read_there (read a) v w h q (register_at a) (λ e. ap (there is_data) e))
 
   pub write_fate : (a x : ℕ) → Fate (write a x) v w (writes v a x)
   write_fate a x =
       either (is_disabled v.state && not (is_chip_reset a x)) (λ _. no (write a x) v w h q ChipDisabled)
-      (λ _. write_of (write a x) v w h q refl (register_at a) x (λ e. command (write a x) v w h q refl (command_of x) x (may e) (may e) (may e)))
+      (λ _. write_there (write a x) v w h q refl (register_at a) x (λ e. command (write a x) v w h q refl (command_of x) x (may e) (may e) (may e)))
     where
-      may : register_at a ≡ CommandRegister → {o : Command} → command_of x ≡ o → is_command (register_at a) && discards (command_of x) ≡ discards o
-      may e {o} f = (λ i. is_command (e i) && discards (f i))
+      may : register_at a ≡ Some CommandRegister → {o : Command} → command_of x ≡ o → there is_command (register_at a) && discards (command_of x) ≡ discards o
+      may e {o} f = (λ i. there is_command (e i) && discards (f i))
 
   pub dma_read_fate : Fate dma_read v w (dma_reads v)
   dma_read_fate = by_dma_fate dma_read v w h q _ (take dma_read v w h q refl)

@@ -5,7 +5,7 @@ use Rattle.bus.specs.Meaning.{Meaning}
 use Rattle.account.specs.Lines.{Line}
 use Rattle.account.specs.Runs.{row_step, walked, answered, lost_in, RanAs}
 use Rattle.registers.specs.declared.answer.Answer.{Answer}
-use Rattle.registers.specs.declared.call.Call.{Call as Row}
+use Rattle.registers.specs.declared.call.CallRow.{CallRow as Row}
 
 module _ {S : Type 0} (m : Meaning S) (cs : List Row) (i : ℕ) (d : Row) (l l' : Line S) (h : i < length cs) (left : l' ≡ (row_step m (get_or cs i d) l).left) where
   pub walked_next : walked m (drop (i + 1) cs) l' ≡ walked m (drop i cs) l

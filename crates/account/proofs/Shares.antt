@@ -9,7 +9,8 @@ use Rattle.bus.specs.Phases.{phase_number, in_data_in}
 use Rattle.chip.specs.Outcomes.{valued}
 use Rattle.chip.specs.Views.{View}
 use Rattle.account.specs.Fates.{entry, Share, tells_read, tells_lost}
-use Rattle.account.specs.Laws.{Call, reads_data, may_lose}
+use Rattle.registers.specs.declared.call.Call.{Call}
+use Rattle.account.specs.Laws.{reads_data, may_lose}
 
 -- an answer that tells neither a read nor a loss of Data In
 pub no_share : (c : Call) (k : ℕ) (a : Answer) → tells_read (entry c k a) ≡ false → tells_lost (entry c k a) ≡ false → Share (entry c k a) []

@@ -26,8 +26,9 @@ use Rattle.account.specs.Fates.{held}
 use Rattle.account.specs.Sound.{SoundOf, Outward}
 use Rattle.registers.specs.States.{is_transferring, is_disabled}
 use Rattle.registers.specs.declared.refusal.Refusal.TheVariants.{ChipDisabled}
-use Rattle.account.specs.Laws.Call.{turn}
-use Rattle.account.specs.Laws.{Call, reads_data, may_lose}
+use Rattle.registers.specs.declared.call.Call.TheVariants.{Turn as turn}
+use Rattle.registers.specs.declared.call.Call.{Call}
+use Rattle.account.specs.Laws.{reads_data, may_lose}
 
 used_outward : (t : Bool) (o : Option Written) → Outward o → Outward (cond t o None)
 used_outward true o h = h

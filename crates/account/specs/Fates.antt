@@ -6,7 +6,8 @@ use Rattle.registers.specs.declared.answer.Answer.{Answer}
 use Rattle.chip.specs.Outcomes.{made_new}
 use Rattle.chip.specs.Views.{View}
 use Rattle.account.specs.Lines.{Line, line}
-use Rattle.account.specs.Laws.{Call, step_of, reads_data, may_lose}
+use Rattle.registers.specs.declared.call.Call.{Call}
+use Rattle.account.specs.Laws.{step_of, reads_data, may_lose}
 
 -- held: the received bytes of Data In in the chip, oldest first
 abbrev pub held : View → List ℕ

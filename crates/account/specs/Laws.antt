@@ -2,6 +2,8 @@
 use Rattle.std.specs.Prelude.{◌≡◌, ℕ, Bool, true, false, cond, ◌&&◌, List, [], ◌∷◌, ◌++◌, ◌==◌, ◌≢◌}
 use Rattle.bus.specs.Meaning.{Meaning}
 use Rattle.registers.specs.declared.answer.Answer.{Answer}
+use Rattle.registers.specs.declared.call.Call.{Call}
+use Rattle.registers.specs.declared.call.Call.TheVariants.{Read as read, Write as write, DmaRead as dma_read, DmaWrite as dma_write, Tick as tick, Turn as turn, Reset as reset}
 use Rattle.registers.specs.Commands.{command_of}
 use Rattle.registers.specs.Registers.{register_at}
 use Rattle.registers.specs.States.{is_disabled}
@@ -9,16 +11,7 @@ use Rattle.chip.specs.Outcomes.{lines_of, quiet, is_pad}
 use Rattle.chip.specs.Views.{View}
 use Rattle.account.specs.Lines.{Line}
 use Rattle.account.specs.Steps.{Step, read_step, write_step, dma_read_step, dma_write_step, tick_step, turn_step, reset_step}
-use Rattle.account.specs.RefusalTable.{first, is_data, is_command, discards, read_table, write_table, dma_read_table, dma_write_table, clock_table}
-
-pub data Call : Type 0 where
-  read : ℕ → Call
-  write : ℕ → ℕ → Call
-  dma_read : Call
-  dma_write : ℕ → Call
-  tick : Call
-  turn : Call
-  reset : Call
+use Rattle.account.specs.RefusalTable.{first, there, is_data, is_command, discards, read_table, write_table, dma_read_table, dma_write_table, clock_table}
 
 abbrev pub step_of : {S : Type 0} → Meaning S → Call → Line S → Step S
 step_of m (read a) l = read_step m a l
@@ -45,7 +38,7 @@ bare n v = record { refusal = n; value = 0; lines = lines_of v; cable = 0; byte 
 
 -- calls that read a byte of data
 abbrev pub reads_data : Call → Bool
-reads_data (read a) = is_data (register_at a)
+reads_data (read a) = there is_data (register_at a)
 reads_data (write a x) = false
 reads_data dma_read = true
 reads_data (dma_write x) = false
@@ -57,7 +50,7 @@ reads_data reset = false
 -- what Command held.
 abbrev pub may_lose : Call → ℕ → Bool
 may_lose (read a) k = false
-may_lose (write a x) k = is_command (register_at a) && discards (command_of x)
+may_lose (write a x) k = there is_command (register_at a) && discards (command_of x)
 may_lose dma_read k = false
 may_lose (dma_write x) k = false
 may_lose tick k = false

@@ -1,9 +1,9 @@
 -- Which call is refused, with which number: the table of the documents, row by row.
-use Rattle.std.specs.Prelude.{ℕ, Bool, true, false, cond, not, ◌&&◌, List, [], ◌∷◌, ◌==◌}
+use Rattle.std.specs.Prelude.{ℕ, Bool, true, false, cond, not, ◌&&◌, List, [], ◌∷◌, Some, None, Option, ◌==◌}
 use Rattle.registers.specs.declared.command.Command.{Command}
 use Rattle.registers.specs.declared.command.Command.TheVariants.{ChipReset, Disconnect, Pause, SetAtn, MessageAccepted, ChipDisable, Unused, Select, Transfer, Invalid}
 use Rattle.registers.specs.declared.register.Register.{Register}
-use Rattle.registers.specs.declared.register.Register.TheVariants.{Data, Command as CommandRegister, Control, DestinationId, AuxiliaryStatus, Id, Interrupt, SourceId, DiagnosticStatus, CounterHigh, CounterMiddle, CounterLow, Missing}
+use Rattle.registers.specs.declared.register.Register.TheVariants.{Data, Command as CommandRegister, Control, DestinationId, AuxiliaryStatus, Id, Interrupt, SourceId, DiagnosticStatus, CounterHigh, CounterMiddle, CounterLow}
 use Rattle.registers.specs.declared.state.State.{State}
 use Rattle.registers.specs.declared.state.State.TheVariants.{Idle, Arbitrating, Selecting, Waiting, Asked, Transferring, Disabled}
 use Rattle.registers.specs.Commands.{command_of}
@@ -26,6 +26,11 @@ abbrev pub first : List Row → ℕ
 first [] = 0
 first (r ∷ rs) = cond r.holds r.number (first rs)
 
+-- whether there is a register, and one of this sort
+abbrev pub there : (Register → Bool) → Option Register → Bool
+there p None = false
+there p (Some r) = p r
+
 -- the register Data
 abbrev pub is_data : Register → Bool
 is_data Data = true
@@ -40,23 +45,6 @@ is_data DiagnosticStatus = false
 is_data CounterHigh = false
 is_data CounterMiddle = false
 is_data CounterLow = false
-is_data Missing = false
-
--- there is no register
-abbrev pub is_missing : Register → Bool
-is_missing Data = false
-is_missing CommandRegister = false
-is_missing Control = false
-is_missing DestinationId = false
-is_missing AuxiliaryStatus = false
-is_missing Id = false
-is_missing Interrupt = false
-is_missing SourceId = false
-is_missing DiagnosticStatus = false
-is_missing CounterHigh = false
-is_missing CounterMiddle = false
-is_missing CounterLow = false
-is_missing Missing = true
 
 -- a register that is only read
 abbrev pub is_read_only : Register → Bool
@@ -72,7 +60,6 @@ is_read_only DiagnosticStatus = true
 is_read_only CounterHigh = false
 is_read_only CounterMiddle = false
 is_read_only CounterLow = false
-is_read_only Missing = false
 
 -- a register that is set before a command, and not under one
 abbrev pub is_settled_first : Register → Bool
@@ -88,7 +75,6 @@ is_settled_first DiagnosticStatus = false
 is_settled_first CounterHigh = true
 is_settled_first CounterMiddle = true
 is_settled_first CounterLow = true
-is_settled_first Missing = false
 
 -- the register Command
 abbrev pub is_command : Register → Bool
@@ -104,7 +90,6 @@ is_command DiagnosticStatus = false
 is_command CounterHigh = false
 is_command CounterMiddle = false
 is_command CounterLow = false
-is_command Missing = false
 
 -- a code from 08h on
 abbrev pub from_08h : Command → Bool
@@ -143,23 +128,28 @@ takes_command Transferring = false
 takes_command Disabled = false
 
 module _ (v : View) where
+  -- where there is no register, there is but one row
+  abbrev pub rows_at : (Register → List Row) → Option Register → List Row
+  rows_at rows None = row true 1 ∷ []
+  rows_at rows (Some r) = rows r
+
   abbrev pub read_rows : Register → List Row
-  read_rows r = row (is_missing r) 1 ∷ row (is_data r && in_dma v) 7 ∷ row (is_data r && is_empty v.received) 6 ∷ []
+  read_rows r = row (is_data r && in_dma v) 7 ∷ row (is_data r && is_empty v.received) 6 ∷ []
 
   abbrev pub read_table : ℕ → List Row
-  read_table a = row (is_disabled v.state) 3 ∷ read_rows (register_at a)
+  read_table a = row (is_disabled v.state) 3 ∷ rows_at read_rows (register_at a)
 
   abbrev pub command_rows : Command → List Row
   command_rows o = row (from_08h o && not (v.registers.interrupt == 0)) 4 ∷ row (from_08h o && not (takes_command v.state)) 5 ∷ []
 
   abbrev pub write_rows : Register → Command → List Row
   write_rows r o =
-      row (is_missing r) 1 ∷ row (is_read_only r) 2 ∷ row (is_data r && in_dma v) 7 ∷ row (is_data r && not (wants_byte v)) 6
+      row (is_read_only r) 2 ∷ row (is_data r && in_dma v) 7 ∷ row (is_data r && not (wants_byte v)) 6
       ∷ row (is_settled_first r && is_busy v.state) 5
       ∷ row (is_command r && (from_08h o && not (v.registers.interrupt == 0))) 4 ∷ row (is_command r && (from_08h o && not (takes_command v.state))) 5 ∷ []
 
   abbrev pub write_table : ℕ → ℕ → List Row
-  write_table a x = row (is_disabled v.state && not (is_chip_reset a x)) 3 ∷ write_rows (register_at a) (command_of x)
+  write_table a x = row (is_disabled v.state && not (is_chip_reset a x)) 3 ∷ rows_at (λ r. write_rows r (command_of x)) (register_at a)
 
   abbrev pub dma_read_table : List Row
   dma_read_table = row (is_disabled v.state) 3 ∷ row (not (in_dma v)) 7 ∷ row (is_empty v.received) 6 ∷ []

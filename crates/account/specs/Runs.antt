@@ -1,34 +1,21 @@
 -- What a list of calls answers and leaves: the calls in turn.
-use Rattle.std.specs.Prelude.{◌≡◌, ℕ, zero, suc, ◌+◌, ◌<◌, ◌≤◌, Bool, false, ◌⊎◌, List, [], ◌∷◌, ◌++◌, length, drop, Some, None, Ok, Err, Option, Result}
+use Rattle.std.specs.Prelude.{◌≡◌, ℕ, ◌+◌, ◌<◌, ◌≤◌, Bool, false, ◌⊎◌, List, [], ◌∷◌, ◌++◌, length, drop, Some, None, Ok, Err, Option, Result}
 use Rattle.bus.specs.Meaning.{Meaning}
 use Rattle.registers.specs.declared.answer.Answer.{Answer}
-use Rattle.registers.specs.declared.call.Call.{Call as Row}
+use Rattle.registers.specs.Calls.{call_of, no_such_call}
+use Rattle.registers.specs.declared.call.CallRow.{CallRow as Row}
 use Rattle.registers.specs.declared.call.Ran.{Ran}
 use Rattle.registers.specs.declared.call.RunRefusal.{RunRefusal}
 use Rattle.account.specs.Fates.{Entry, entry}
-use Rattle.account.specs.Laws.{Call, bare, reads_data, step_of}
-use Rattle.account.specs.Laws.Call.{read, write, dma_read, dma_write, tick, turn, reset}
+use Rattle.registers.specs.declared.call.Call.{Call}
+use Rattle.account.specs.Laws.{bare, reads_data, step_of}
 use Rattle.account.specs.Lines.{Line}
 use Rattle.account.specs.Steps.{Step, step}
-
--- the call that three numbers name, if there is one of that kind
-abbrev pub named : ℕ → ℕ → ℕ → Option Call
-named zero a x = Some (read a)
-named (suc zero) a x = Some (write a x)
-named (suc (suc zero)) a x = Some dma_read
-named (suc (suc (suc zero))) a x = Some (dma_write x)
-named (suc (suc (suc (suc zero)))) a x = Some tick
-named (suc (suc (suc (suc (suc zero))))) a x = Some turn
-named (suc (suc (suc (suc (suc (suc zero)))))) a x = Some reset
-named (suc (suc (suc (suc (suc (suc (suc k))))))) a x = None
-
-abbrev pub call_of : Row → Option Call
-call_of r = named r.kind r.address r.value
 
 -- A call of a list. A kind that there is not is no call: it is answered with 9 and the lines, and changes nothing.
 abbrev pub listed_step : {S : Type 0} → Meaning S → Option Call → Line S → Step S
 listed_step m (Some c) l = step_of m c l
-listed_step m None l = step (bare 9 l.chip) l.chip l.station []
+listed_step m None l = step (bare no_such_call l.chip) l.chip l.station []
 
 abbrev pub row_step : {S : Type 0} → Meaning S → Row → Line S → Step S
 row_step m r l = listed_step m (call_of r) l

@@ -9,7 +9,7 @@ use Rattle.registers.specs.Commands.{command_of}
 use Rattle.registers.specs.Registers.{register_at}
 use Rattle.chip.specs.Outcomes.{lines_of}
 use Rattle.chip.specs.Turns.{takes, sends}
-use Rattle.account.specs.Laws.Call.{write, turn}
+use Rattle.registers.specs.declared.call.Call.TheVariants.{Write as write, Turn as turn}
 use Rattle.account.specs.Lines.{Line, line}
 use Rattle.script.specs.declared.row.Row.{Row}
 use Rattle.script.specs.declared.script.Script.{Script}

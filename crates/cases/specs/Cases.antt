@@ -4,8 +4,8 @@ use Rattle.std.specs.Borrow.{Bor}
 use Rattle.chip.specs.Outcomes.{made_new}
 use Rattle.chip.specs.Reads.{reads}
 use Rattle.account.specs.Fates.{held}
-use Rattle.account.specs.Laws.{Call}
-use Rattle.account.specs.Laws.Call.{read, write, tick, turn}
+use Rattle.registers.specs.declared.call.Call.{Call}
+use Rattle.registers.specs.declared.call.Call.TheVariants.{Read as read, Write as write, Tick as tick, Turn as turn}
 use Rattle.script.specs.declared.row.Row.{Row}
 use Rattle.script.specs.Scripts.{script_meaning}
 use Rattle.drive.specs.declared.image.Image.{Image}

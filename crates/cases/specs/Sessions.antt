@@ -5,8 +5,9 @@ use Rattle.std.specs.Borrow.{Bor}
 use Rattle.bus.specs.Meaning.{Meaning}
 use Rattle.registers.specs.declared.answer.Answer.{Answer}
 use Rattle.chip.specs.Outcomes.{made_new}
-use Rattle.account.specs.Laws.{Call, step_of}
-use Rattle.account.specs.Laws.Call.{read, write, tick, turn}
+use Rattle.registers.specs.declared.call.Call.{Call}
+use Rattle.account.specs.Laws.{step_of}
+use Rattle.registers.specs.declared.call.Call.TheVariants.{Read as read, Write as write, Tick as tick, Turn as turn}
 use Rattle.account.specs.Lines.{Line, line}
 use Rattle.script.specs.declared.row.Row.{Row}
 use Rattle.script.specs.declared.script.Script.{Script}

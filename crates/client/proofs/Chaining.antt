@@ -4,14 +4,16 @@ use Rattle.std.proofs.Common.{◌≡◌, ℕ, List, [], ◌∷◌, ◌++◌, map
 use mathlib.Core.List.{map-append}
 use Rattle.bus.specs.Meaning.{Meaning}
 use Rattle.registers.specs.declared.answer.Answer.{Answer}
-use Rattle.registers.specs.declared.call.Call.{Call as Row}
+use Rattle.registers.specs.declared.call.CallRow.{CallRow as Row}
 use Rattle.registers.specs.declared.call.Ran.{Ran}
 use Rattle.registers.specs.declared.call.RunRefusal.{RunRefusal}
 use Rattle.account.specs.Accounts.{Account, KeepsAccount, RunGoesOn}
 use Rattle.account.specs.Fates.{Entry, entry}
-use Rattle.account.specs.Laws.{Call, step_of}
+use Rattle.registers.specs.declared.call.Call.{Call}
+use Rattle.account.specs.Laws.{step_of}
 use Rattle.account.specs.Lines.{Line}
-use Rattle.account.specs.Runs.{call_of, row_step, noted, answered, recorded, joining, RunSays}
+use Rattle.registers.specs.Calls.{call_of}
+use Rattle.account.specs.Runs.{row_step, noted, answered, recorded, joining, RunSays}
 use Rattle.client.specs.Surveys.{call_in, answer_in, Kept, calls_in, answers_to, calls_run, answers_run}
 
 module _ {S : Type 0} (m : Meaning S) (s : S) where

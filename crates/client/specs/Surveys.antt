@@ -3,14 +3,14 @@ use Rattle.std.specs.Prelude.{◌≡◌, ℕ, List, [], ◌∷◌, ◌++◌, map
 use Rattle.std.specs.Option.{option_to_list}
 use Rattle.bus.specs.Meaning.{Meaning}
 use Rattle.registers.specs.declared.answer.Answer.{Answer}
-use Rattle.registers.specs.declared.call.Call.{Call as Row}
+use Rattle.registers.specs.declared.call.CallRow.{CallRow as Row}
 use Rattle.registers.specs.declared.call.Ran.{Ran}
 use Rattle.registers.specs.declared.call.RunRefusal.{RunRefusal}
 use Rattle.account.specs.Accounts.{Account}
 use Rattle.account.specs.Fates.{Entry}
-use Rattle.account.specs.Laws.{Call}
+use Rattle.registers.specs.declared.call.Call.{Call}
 use Rattle.account.specs.Lines.{Line}
-use Rattle.account.specs.Runs.{call_of}
+use Rattle.registers.specs.Calls.{call_of}
 
 abbrev pub call_in : Entry → Call
 call_in e = e.call

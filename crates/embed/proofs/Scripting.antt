@@ -4,7 +4,7 @@ use Rattle.std.proofs.lemmas.List.{get_or_default}
 use Rattle.bus.specs.Meaning.{Meaning}
 use Rattle.bus.specs.Wishes.{is_off}
 use Rattle.registers.specs.declared.answer.Answer.{Answer}
-use Rattle.registers.specs.declared.call.Call.{Call as Row}
+use Rattle.registers.specs.declared.call.CallRow.{CallRow as Row}
 use Rattle.registers.specs.declared.call.Ran.{Ran}
 use Rattle.registers.specs.declared.call.RunRefusal.{RunRefusal}
 use Rattle.account.specs.Alike.{seen}

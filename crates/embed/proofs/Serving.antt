@@ -2,7 +2,7 @@
 use Rattle.std.proofs.Common.{◌≡◌, ℕ, Bool, true, false, cond, List, ◌++◌, length, drop, Ok, Err, Result, sym, refl, ap, ◌∙◌, subst}
 use Rattle.bus.specs.Meaning.{Meaning, Lawful}
 use Rattle.registers.specs.declared.answer.Answer.{Answer}
-use Rattle.registers.specs.declared.call.Call.{Call as Row}
+use Rattle.registers.specs.declared.call.CallRow.{CallRow as Row}
 use Rattle.registers.specs.declared.call.Ran.{Ran}
 use Rattle.registers.specs.declared.call.RunRefusal.{RunRefusal}
 use Rattle.account.specs.Alike.{SeenAs, seen}

@@ -2,7 +2,7 @@
 use Rattle.std.specs.Prelude.{◌≡◌, ℕ, List, Some, None, Option, Result, ◌≢◌}
 use Rattle.bus.specs.Meaning.{Meaning}
 use Rattle.registers.specs.declared.answer.Answer.{Answer}
-use Rattle.registers.specs.declared.call.Call.{Call as Row}
+use Rattle.registers.specs.declared.call.CallRow.{CallRow as Row}
 use Rattle.registers.specs.declared.call.Ran.{Ran}
 use Rattle.registers.specs.declared.call.RunRefusal.{RunRefusal}
 use Rattle.chip.specs.Model.{model}

@@ -3,14 +3,16 @@ use Rattle.std.proofs.Common.{◌≡◌, ℕ, ◌+◌, Bool, true, cond, eqb, Li
 use Rattle.std.proofs.lemmas.Bool.{and_parts, and_from, eqb-true, eq-eqb}
 use Rattle.bus.specs.Meaning.{Meaning}
 use Rattle.registers.specs.declared.answer.Answer.{Answer}
-use Rattle.registers.specs.declared.call.Call.{Call as Row}
+use Rattle.registers.specs.declared.call.CallRow.{CallRow as Row}
 use Rattle.registers.specs.declared.call.Ran.{Ran}
 use Rattle.registers.specs.declared.call.RunRefusal.{RunRefusal}
 use Rattle.account.specs.Fates.{Entry, record_of, lost_of}
 use Rattle.account.specs.Lines.{Line, line}
 use Rattle.chip.specs.Outcomes.{made_new}
-use Rattle.account.specs.Laws.{Call, step_of}
-use Rattle.account.specs.Runs.{call_of, listed_step, row_step, noted, answered, recorded}
+use Rattle.registers.specs.declared.call.Call.{Call}
+use Rattle.account.specs.Laws.{step_of}
+use Rattle.registers.specs.Calls.{call_of}
+use Rattle.account.specs.Runs.{listed_step, row_step, noted, answered, recorded}
 use Rattle.account.proofs.Records.{complete_record}
 use Rattle.fates.specs.Trials.{answer_reads, answer_loses, record_in, lost_data, same, put_up, Trial, TrialSays, Whole, Compares}
 

@@ -2,15 +2,16 @@
 use Rattle.std.specs.Prelude.{◌≡◌, ℕ, ◌+◌, ◌<◌, ◌≤◌, Bool, true, false, cond, ◌&&◌, List, [], ◌∷◌, ◌++◌, length, drop, Some, None, Ok, Err, Option, Result, ◌==◌, nat_lt}
 use Rattle.bus.specs.Meaning.{Meaning}
 use Rattle.registers.specs.declared.answer.Answer.{Answer}
-use Rattle.registers.specs.declared.call.Call.{Call as Row}
+use Rattle.registers.specs.declared.call.CallRow.{CallRow as Row}
 use Rattle.registers.specs.declared.call.Ran.{Ran}
 use Rattle.registers.specs.declared.call.RunRefusal.{RunRefusal}
 use Rattle.chip.specs.Outcomes.{made_new}
 use Rattle.account.specs.Accounts.{Account}
 use Rattle.account.specs.Fates.{held}
-use Rattle.account.specs.Laws.{Call}
+use Rattle.registers.specs.declared.call.Call.{Call}
 use Rattle.account.specs.Lines.{Line, line}
-use Rattle.account.specs.Runs.{call_of, listed_reads, joining, recorded, RanAs, NotRun}
+use Rattle.registers.specs.Calls.{call_of}
+use Rattle.account.specs.Runs.{listed_reads, joining, recorded, RanAs, NotRun}
 
 -- whether the answer to a call of a list tells a Data In byte read, and whether an answer tells Data In bytes lost
 abbrev pub answer_reads : Option Call → Answer → Bool

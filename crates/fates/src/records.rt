@@ -1,6 +1,7 @@
 // Records: the Data In bytes that the host read, from its calls and their answers.
 ghost use Rattle.std.specs.Prelude.{◌≡◌};
-ghost use Rattle.account.specs.Runs.{call_of, listed_reads};
+ghost use Rattle.registers.specs.Calls.{call_of};
+ghost use Rattle.account.specs.Runs.{listed_reads};
 ghost use Rattle.fates.specs.Trials.{reads_byte, record_in, same, NextRead};
 
 use registers::answer::Answer;

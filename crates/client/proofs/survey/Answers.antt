@@ -1,7 +1,7 @@
 use Rattle.std.proofs.Common.{List, [], ◌∷◌, ◌++◌, ap}
 use Rattle.registers.specs.declared.answer.Answer.{Answer}
-use Rattle.account.specs.Laws.{Call}
-use Rattle.account.specs.Laws.Call.{read, write, tick, turn}
+use Rattle.registers.specs.declared.call.Call.{Call}
+use Rattle.registers.specs.declared.call.Call.TheVariants.{Read as read, Write as write, Tick as tick, Turn as turn}
 use Rattle.client.proofs.Chaining.{opened, then_call, then_run, retold, five_more}
 use Rattle.client.proofs.survey.Goals as goal
 
