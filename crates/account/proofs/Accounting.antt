@@ -6,7 +6,7 @@ use Rattle.registers.specs.declared.call.CallRow.{CallRow as Row}
 use Rattle.registers.specs.declared.call.Ran.{Ran}
 use Rattle.registers.specs.declared.call.RunRefusal.{RunRefusal}
 use Rattle.chip.specs.Outcomes.{made_new}
-use Rattle.account.specs.Accounts.{Account, KeepsAccount, RunGoesOn}
+use Rattle.account.specs.Accounts.{Account, KeepsAccount, Makes, RunKeepsAccount}
 use Rattle.account.specs.Fates.{Entry, entry, History}
 use Rattle.account.specs.Fates.History.{begun, called}
 use Rattle.registers.specs.declared.call.Call.{Call}
@@ -14,7 +14,7 @@ use Rattle.account.specs.Laws.{step_of}
 use Rattle.account.specs.Lines.{Line, line}
 use Rattle.registers.specs.Calls.{call_of}
 use Rattle.account.specs.Runs.{listed_step, noted, walked, joining, recorded, RunSays}
-use Rattle.account.proofs.Account.{every_fate}
+use Rattle.account.proofs.Account.{every_fate, goes_on}
 
 -- what there is to say of a string, said of what was put up and answered in other words
 told : {S : Type 0} (m : Meaning S) (up up' : List ℕ) (es es' : List Entry) (l : Line S) → up ≡ up' → es ≡ es' → History m up es l → History m up' es' l
@@ -50,7 +50,11 @@ module _ {S : Type 0} (m : Meaning S) (law : Lawful m) where
       let k = l.chip.registers.command in
       subst (λ x. Account m u (es ++ (entry c k a ∷ [])) x) (sym left) (subst (λ x. Account m u (es ++ (entry c k x ∷ [])) (step_of m c l).left) (sym is) (kept _ _ _ (called up es l h c)))
 
+  -- so that each does what its law says
+  pub makes : (c : Call) (l : Line S) (a : Answer) (l' : Line S) → a ≡ (step_of m c l).answer → l' ≡ (step_of m c l).left → Makes m c l a l'
+  makes c l a l' is left = record { answer = is; after = left; fates = goes_on m law c l a l' is left; account = keeps_account c l a l' is left }
+
   -- and so does a run
-  pub run_goes_on : (cs : List Row) (l : Line S) (room : List Answer) (l' : Line S) (room' : List Answer) (r : Result Ran RunRefusal) → RunSays m cs l room l' room' r → RunGoesOn m cs l l' r
+  pub run_goes_on : (cs : List Row) (l : Line S) (room : List Answer) (l' : Line S) (room' : List Answer) (r : Result Ran RunRefusal) → RunSays m cs l room l' room' r → RunKeepsAccount m cs l l' r
   run_goes_on cs l room l' room' (Ok t) did = λ up es h. subst (λ x. Account m (up ++ joining m cs l) (es ++ recorded m cs l) x) (sym did.string) (kept _ _ _ (history_on m cs up es l h))
   run_goes_on cs l room l' room' (Err e) did = λ up es h. subst (λ x. Account m up es x) (sym did.string) (kept _ _ _ h)

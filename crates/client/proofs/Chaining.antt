@@ -7,7 +7,7 @@ use Rattle.registers.specs.declared.answer.Answer.{Answer}
 use Rattle.registers.specs.declared.call.CallRow.{CallRow as Row}
 use Rattle.registers.specs.declared.call.Ran.{Ran}
 use Rattle.registers.specs.declared.call.RunRefusal.{RunRefusal}
-use Rattle.account.specs.Accounts.{Account, KeepsAccount, RunGoesOn}
+use Rattle.account.specs.Accounts.{Account, KeepsAccount, RunKeepsAccount}
 use Rattle.account.specs.Fates.{Entry, entry}
 use Rattle.registers.specs.declared.call.Call.{Call}
 use Rattle.account.specs.Laws.{step_of}
@@ -52,7 +52,7 @@ module _ {S : Type 0} (m : Meaning S) (s : S) where
   run_answers [] l more = refl
   run_answers (r ∷ rows) l more = noted_answer (call_of r) l.chip.registers.command _ _ _ (run_answers rows (row_step m r l).left more)
 
-  pub then_run : (cs : List Call) (xs : List Answer) (rows : List Row) (l l' : Line S) (room room' : List Answer) (r : Result Ran RunRefusal) → Kept m s cs xs l → RunSays m rows l room l' room' r → RunGoesOn m rows l l' r → Kept m s (cs ++ calls_run rows r) (xs ++ answers_run rows room' r) l'
+  pub then_run : (cs : List Call) (xs : List Answer) (rows : List Row) (l l' : Line S) (room room' : List Answer) (r : Result Ran RunRefusal) → Kept m s cs xs l → RunSays m rows l room l' room' r → RunKeepsAccount m rows l l' r → Kept m s (cs ++ calls_run rows r) (xs ++ answers_run rows room' r) l'
   then_run cs xs rows l l' room room' (Ok t) k says on = record {
     entries = k.entries ++ recorded m rows l;
     joined = k.joined ++ joining m rows l;

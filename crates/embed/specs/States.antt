@@ -6,7 +6,7 @@ use Rattle.registers.specs.declared.call.CallRow.{CallRow as Row}
 use Rattle.registers.specs.declared.call.Ran.{Ran}
 use Rattle.registers.specs.declared.call.RunRefusal.{RunRefusal}
 use Rattle.chip.specs.Model.{model}
-use Rattle.account.specs.Accounts.{RunGoesOn}
+use Rattle.account.specs.Accounts.{RunKeepsAccount}
 use Rattle.account.specs.Lines.{Line}
 use Rattle.account.specs.Runs.{RunSays}
 use Rattle.breaker.specs.declared.Breaker.{Breaker}
@@ -80,7 +80,7 @@ module _ {S : Type 0} (m : Meaning S) (Is : SavedString → Line S → Type 0) w
     pub left : Line S
     pub says : RunSays m calls l room left room' r
     pub is : Is s' left
-    pub fates : RunGoesOn m calls l left r
+    pub fates : RunKeepsAccount m calls l left r
 
   -- there is a string with these numbers, and this is done to each that has them
   pub record Serves (s : SavedString) (calls : List Row) (room : List Answer) (s' : SavedString) (room' : List Answer) (r : Result Ran RunRefusal) : Type 0 where

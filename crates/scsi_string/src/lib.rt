@@ -4,26 +4,22 @@
 ghost use Rattle.std.specs.Prelude.{◌≡◌, [], ◌+◌, ◌^◌, ◌<◌, ◌≤◌, length, set};
 ghost use Rattle.chip.specs.Model.{model};
 ghost use Rattle.chip.specs.Outcomes.{made_new};
-ghost use Rattle.account.specs.Accounts.{Account, KeepsAccount, RunGoesOn};
-ghost use Rattle.account.specs.Fates.{held, EveryFate, GoesOn};
-ghost use Rattle.account.specs.Laws.{Laws};
-ghost use Rattle.account.specs.Laws.Call.{read as a_read, write as a_write, dma_read as a_dma_read, dma_write as a_dma_write, tick as a_tick, turn as a_turn, reset as a_reset};
+ghost use Rattle.account.specs.Accounts.{Account, Makes, RunKeepsAccount};
+ghost use Rattle.account.specs.Fates.{held, EveryFate};
+ghost use Rattle.account.specs.Laws.{step_of, Laws};
 ghost use Rattle.account.specs.Lines.{line};
 ghost use Rattle.account.specs.Runs.{row_step, RunSays};
+ghost use Rattle.account.specs.Steps.{heard, chosen_step, turn_step};
 ghost use Rattle.scsi_string.specs.Strings.{values};
-ghost use Rattle.account.specs.Steps.{heard, chosen_step, read_step, write_step, dma_read_step, dma_write_step, tick_step, turn_step, reset_step};
 
 use bus::address::StationAddress;
 use bus::station::{Station, Tally};
 use chip::chip::Ncr5385e;
-use registers::answer::{Answer, Reaction};
-use registers::call::{Call, Ran, RunRefusal};
+use registers::answer::{Answer, Reaction, Response};
+use registers::call::{Call, CallRow, Ran, RunRefusal};
 
 // How many calls a run makes at most.
 pub const MOST_CALLS: usize = 65_536;
-
-// The refusal of a call whose kind there is not.
-const NO_SUCH_CALL: u8 = 9;
 
 #[derive(Drop)]
 pub struct ScsiString<S> {
@@ -64,22 +60,14 @@ impl<S: Station> ScsiString<S> {
     pub fn into_parts(self) -> (Ncr5385e, S)
         ensures { result ≡ (self.chip, self.station) }
     {
-        let ScsiString {
-            chip: taken,
-            station: left,
-        } = self;
-        (taken, left)
+        (self.chip, self.station)
     }
 
     // The station, as it is now.
     pub fn into_station(self) -> S
         ensures { result ≡ self.station }
     {
-        let ScsiString {
-            chip: _,
-            station: taken,
-        } = self;
-        taken
+        self.into_parts().1
     }
 
     // The chip, to be looked at.
@@ -97,94 +85,80 @@ impl<S: Station> ScsiString<S> {
         self.chip.held_data()
     }
 
+    // Makes a call.
+    pub fn make(&mut self, call: Call) -> Answer
+        ensures { Makes S.meaning call (values self.old) result (values self.new) }
+    {
+        self.step(call)
+    }
+
     // The host reads a register.
     pub fn read(&mut self, address: u8) -> Answer
-        ensures answer { result ≡ (read_step S.meaning address (values self.old)).answer }
-        ensures after { values self.new ≡ (read_step S.meaning address (values self.old)).left }
-        ensures fates { GoesOn S.meaning (a_read address) (values self.old) result (values self.new) }
-        ensures account { KeepsAccount S.meaning (a_read address) (values self.old) result (values self.new) }
+        ensures { Makes S.meaning (Call.Read address) (values self.old) result (values self.new) }
     {
-        self.read_step(address)
+        self.make(Call::Read(address))
     }
 
     // The host writes a register.
     pub fn write(&mut self, address: u8, value: u8) -> Answer
-        ensures answer { result ≡ (write_step S.meaning address value (values self.old)).answer }
-        ensures after { values self.new ≡ (write_step S.meaning address value (values self.old)).left }
-        ensures fates { GoesOn S.meaning (a_write address value) (values self.old) result (values self.new) }
-        ensures account { KeepsAccount S.meaning (a_write address value) (values self.old) result (values self.new) }
+        ensures { Makes S.meaning (Call.Write address value) (values self.old) result (values self.new) }
     {
-        self.write_step(address, value)
+        self.make(Call::Write(address, value))
     }
 
     // The host's DMA reads a byte of data.
     pub fn dma_read(&mut self) -> Answer
-        ensures answer { result ≡ (dma_read_step S.meaning (values self.old)).answer }
-        ensures after { values self.new ≡ (dma_read_step S.meaning (values self.old)).left }
-        ensures fates { GoesOn S.meaning (a_dma_read) (values self.old) result (values self.new) }
-        ensures account { KeepsAccount S.meaning (a_dma_read) (values self.old) result (values self.new) }
+        ensures { Makes S.meaning Call.DmaRead (values self.old) result (values self.new) }
     {
-        self.dma_read_step()
+        self.make(Call::DmaRead)
     }
 
     // The host's DMA writes a byte of data.
     pub fn dma_write(&mut self, value: u8) -> Answer
-        ensures answer { result ≡ (dma_write_step S.meaning value (values self.old)).answer }
-        ensures after { values self.new ≡ (dma_write_step S.meaning value (values self.old)).left }
-        ensures fates { GoesOn S.meaning (a_dma_write value) (values self.old) result (values self.new) }
-        ensures account { KeepsAccount S.meaning (a_dma_write value) (values self.old) result (values self.new) }
+        ensures { Makes S.meaning (Call.DmaWrite value) (values self.old) result (values self.new) }
     {
-        self.dma_write_step(value)
+        self.make(Call::DmaWrite(value))
     }
 
     // 1,024 clocks of the chip have passed.
     pub fn tick(&mut self) -> Answer
-        ensures answer { result ≡ (tick_step S.meaning (values self.old)).answer }
-        ensures after { values self.new ≡ (tick_step S.meaning (values self.old)).left }
-        ensures fates { GoesOn S.meaning (a_tick) (values self.old) result (values self.new) }
-        ensures account { KeepsAccount S.meaning (a_tick) (values self.old) result (values self.new) }
+        ensures { Makes S.meaning Call.Tick (values self.old) result (values self.new) }
     {
-        self.tick_step()
+        self.make(Call::Tick)
     }
 
     // The cable may move: the chip looks at the station's wish.
     pub fn turn(&mut self) -> Answer
-        ensures answer { result ≡ (turn_step S.meaning (values self.old)).answer }
-        ensures after { values self.new ≡ (turn_step S.meaning (values self.old)).left }
-        ensures fates { GoesOn S.meaning (a_turn) (values self.old) result (values self.new) }
-        ensures account { KeepsAccount S.meaning (a_turn) (values self.old) result (values self.new) }
+        ensures { Makes S.meaning Call.Turn (values self.old) result (values self.new) }
     {
-        self.turn_step()
+        self.make(Call::Turn)
     }
 
     // The host pulls the chip's reset line.
     pub fn reset(&mut self) -> Answer
-        ensures answer { result ≡ (reset_step S.meaning (values self.old)).answer }
-        ensures after { values self.new ≡ (reset_step S.meaning (values self.old)).left }
-        ensures fates { GoesOn S.meaning (a_reset) (values self.old) result (values self.new) }
-        ensures account { KeepsAccount S.meaning (a_reset) (values self.old) result (values self.new) }
+        ensures { Makes S.meaning Call.Reset (values self.old) result (values self.new) }
     {
-        self.reset_step()
+        self.make(Call::Reset)
     }
 
     // Makes the calls in their order, and fills as many answers. It is refused where there are more than 65,536 calls, or
     // fewer answers than calls; then nothing changes. A run counts as its calls.
-    pub fn run(&mut self, calls: &[Call], answers: &mut [Answer]) -> Result<Ran, RunRefusal>
+    pub fn run(&mut self, calls: &[CallRow], answers: &mut [Answer]) -> Result<Ran, RunRefusal>
         ensures says { RunSays S.meaning calls.now (values self.old) answers.old (values self.new) answers.new result }
-        ensures fates { RunGoesOn S.meaning calls.now (values self.old) (values self.new) result }
+        ensures fates { RunKeepsAccount S.meaning calls.now (values self.old) (values self.new) result }
     {
         self.run_steps(calls, answers)
     }
 
-    fn run_steps(&mut self, calls: &[Call], answers: &mut [Answer]) -> Result<Ran, RunRefusal>
+    fn run_steps(&mut self, calls: &[CallRow], answers: &mut [Answer]) -> Result<Ran, RunRefusal>
         ensures { RunSays S.meaning calls.now (values self.old) answers.old (values self.new) answers.new result }
     {
         if calls.len() > MOST_CALLS || answers.len() < calls.len() {
             return Err(RunRefusal::NoRoom);
         }
         let mut lost: u32 = 0;
-        for i in 0..calls.len() {
-            lost = self.fill(answers, i, calls[i], lost);
+        for (i, call) in calls.iter().enumerate() {
+            lost = self.fill(answers, i, *call, lost);
         }
         Ok(Ran {
             calls: calls.len() as u32,
@@ -193,81 +167,46 @@ impl<S: Station> ScsiString<S> {
     }
 
     // Makes a call, puts its answer at a place, and adds up the bytes lost.
-    fn fill(&mut self, answers: &mut [Answer], at: usize, call: Call, lost: u32) -> u32
+    fn fill(&mut self, answers: &mut [Answer], at: usize, call: CallRow, lost: u32) -> u32
         requires { (at < length answers.old) × (lost < 2 ^ 31) }
         ensures after { values self.new ≡ (row_step S.meaning call (values self.old)).left }
         ensures filled { answers.new ≡ set answers.old at (row_step S.meaning call (values self.old)).answer }
         ensures lost { result ≡ lost + (row_step S.meaning call (values self.old)).answer.lost }
         ensures bound { result ≤ lost + 255 }
     {
-        let answer = self.make(call);
+        let answer = self.make_row(call);
         answers[at] = answer;
-        lost + answer.lost as u32
+        lost + u32::from(answer.lost)
     }
 
-    // One call of a list; a kind that there is not is answered with 9.
-    fn make(&mut self, call: Call) -> Answer
-        ensures answer { result ≡ (row_step S.meaning call (values self.old)).answer }
-        ensures after { values self.new ≡ (row_step S.meaning call (values self.old)).left }
+    // One call of a list; a row that names none is answered with its refusal.
+    fn make_row(&mut self, row: CallRow) -> Answer
+        ensures answer { result ≡ (row_step S.meaning row (values self.old)).answer }
+        ensures after { values self.new ≡ (row_step S.meaning row (values self.old)).left }
     {
-        match call.kind {
-            0 => self.read_step(call.address),
-            1 => self.write_step(call.address, call.value),
-            2 => self.dma_read_step(),
-            3 => self.dma_write_step(call.value),
-            4 => self.tick_step(),
-            5 => self.turn_step(),
-            6 => self.reset_step(),
-            _ => Answer {
-                refusal: NO_SUCH_CALL,
+        match Call::try_from(row) {
+            Ok(call) => self.step(call),
+            Err(refusal) => Answer {
+                refusal: refusal.into(),
                 ..self.chip.quiet()
             },
         }
     }
 
-    fn read_step(&mut self, address: u8) -> Answer
-        ensures answer { result ≡ (read_step S.meaning address (values self.old)).answer }
-        ensures after { values self.new ≡ (read_step S.meaning address (values self.old)).left }
+    fn step(&mut self, call: Call) -> Answer
+        ensures answer { result ≡ (step_of S.meaning call (values self.old)).answer }
+        ensures after { values self.new ≡ (step_of S.meaning call (values self.old)).left }
     {
-        let response = self.chip.read(address);
-        self.hear(response.reaction);
-        response.answer
-    }
-
-    fn write_step(&mut self, address: u8, value: u8) -> Answer
-        ensures answer { result ≡ (write_step S.meaning address value (values self.old)).answer }
-        ensures after { values self.new ≡ (write_step S.meaning address value (values self.old)).left }
-    {
-        let response = self.chip.write(address, value);
-        self.hear(response.reaction);
-        response.answer
-    }
-
-    fn dma_read_step(&mut self) -> Answer
-        ensures answer { result ≡ (dma_read_step S.meaning (values self.old)).answer }
-        ensures after { values self.new ≡ (dma_read_step S.meaning (values self.old)).left }
-    {
-        let response = self.chip.dma_read();
-        self.hear(response.reaction);
-        response.answer
-    }
-
-    fn dma_write_step(&mut self, value: u8) -> Answer
-        ensures answer { result ≡ (dma_write_step S.meaning value (values self.old)).answer }
-        ensures after { values self.new ≡ (dma_write_step S.meaning value (values self.old)).left }
-    {
-        let response = self.chip.dma_write(value);
-        self.hear(response.reaction);
-        response.answer
-    }
-
-    fn tick_step(&mut self) -> Answer
-        ensures answer { result ≡ (tick_step S.meaning (values self.old)).answer }
-        ensures after { values self.new ≡ (tick_step S.meaning (values self.old)).left }
-    {
-        let response = self.chip.tick();
-        self.hear(response.reaction);
-        response.answer
+        let response = match call {
+            Call::Read(address) => self.chip.read(address),
+            Call::Write(address, value) => self.chip.write(address, value),
+            Call::DmaRead => self.chip.dma_read(),
+            Call::DmaWrite(value) => self.chip.dma_write(value),
+            Call::Tick => self.chip.tick(),
+            Call::Turn => return self.turn_step(),
+            Call::Reset => self.chip.reset(),
+        };
+        self.hear(response)
     }
 
     fn turn_step(&mut self) -> Answer
@@ -277,32 +216,21 @@ impl<S: Station> ScsiString<S> {
         let wish = self.station.wish();
         let response = self.chip.turn(wish);
         match response.reaction {
-            Reaction::Nothing => response.answer,
-            Reaction::Tell(byte) => {
-                self.station.told(byte);
-                response.answer
-            }
             Reaction::Choose(destination, atn) => self.choose(destination, atn, response.answer),
+            Reaction::Nothing | Reaction::Tell(_) => self.hear(response),
         }
-    }
-
-    fn reset_step(&mut self) -> Answer
-        ensures answer { result ≡ (reset_step S.meaning (values self.old)).answer }
-        ensures after { values self.new ≡ (reset_step S.meaning (values self.old)).left }
-    {
-        let response = self.chip.reset();
-        self.hear(response.reaction);
-        response.answer
     }
 
     // The station is told where the chip says so. Only a turn has it chosen.
-    fn hear(&mut self, reaction: Reaction)
-        ensures { values self.new ≡ line (values self.old).chip (heard S.meaning reaction self.old.station) }
+    fn hear(&mut self, response: Response) -> Answer
+        ensures answer { result ≡ response.answer }
+        ensures after { values self.new ≡ line (values self.old).chip (heard S.meaning response.reaction self.old.station) }
     {
-        match reaction {
+        match response.reaction {
             Reaction::Tell(byte) => self.station.told(byte),
             Reaction::Nothing | Reaction::Choose(_, _) => {}
         }
+        response.answer
     }
 
     // The station is chosen; a yes is heard by the chip.
