@@ -16,13 +16,13 @@ use Rattle.saved.specs.declared.numbers.SavedScript.{SavedScript}
 abbrev stage_in : SavedDrive → Stage
 stage_in s =
     cond (eqb s.stage 0) Idle (cond (eqb s.stage 1) MessageOut (cond (eqb s.stage 2) (Command (record { bytes = s.bytes; taken = s.taken }))
-    (cond (eqb s.stage 3) (Reply (record { first = s.first; count = s.count; status = s.status }) s.sent) (cond (eqb s.stage 4) Complete Leaving))))
+    (cond (eqb s.stage 3) (Reply (record { reply = record { first = s.first; count = s.count; status = s.status }; sent = s.sent })) (cond (eqb s.stage 4) Complete Leaving))))
 
 stage_round : (x : Stage) → stage_in (drive_numbers x) ≡ x
 stage_round Idle = refl
 stage_round MessageOut = refl
 stage_round (Command c) = refl
-stage_round (Reply r sent) = refl
+stage_round (Reply s) = refl
 stage_round Complete = refl
 stage_round Leaving = refl
 

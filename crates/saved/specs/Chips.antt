@@ -1,5 +1,5 @@
 -- The numbers of a chip, and the chip of such numbers.
-use Rattle.std.specs.Prelude.{◌≡◌, ℕ, Bool, cond, not, ◌&&◌, ◌||◌, List, length, Some, None, Option, ◌==◌, ◌≢◌, nat_le, slice_index}
+use Rattle.std.specs.Prelude.{◌≡◌, ℕ, Bool, cond, not, ◌&&◌, ◌||◌, List, length, Some, None, Ok, Err, Option, Result, ◌==◌, ◌≢◌, nat_le, slice_index}
 use Rattle.bus.specs.Phases.{phase_number}
 use Rattle.registers.specs.States.{state_number}
 use Rattle.chip.specs.declared.chip.Flags.{Flags}
@@ -13,10 +13,10 @@ use Rattle.saved.specs.declared.numbers.SavedFlags.{SavedFlags}
 use Rattle.saved.specs.declared.numbers.SavedReceived.{SavedReceived}
 use Rattle.saved.specs.declared.numbers.SavedWritten.{SavedWritten}
 
--- what numbers are unpacked to: one that has exactly these numbers, or nothing where there is none
-abbrev pub Unpacks : {X N : Type 0} → (X → N) → N → Option X → Type 0
-Unpacks numbers saved None = (x : _) → numbers x ≢ saved
-Unpacks numbers saved (Some x) = numbers x ≡ saved
+-- what numbers are unpacked to: one that has exactly these numbers, or an error where there is none
+abbrev pub Unpacks : {X N E : Type 0} → (X → N) → N → Result X E → Type 0
+Unpacks numbers saved (Ok x) = numbers x ≡ saved
+Unpacks numbers saved (Err e) = (x : _) → numbers x ≢ saved
 
 abbrev pub flag_number : Bool → ℕ
 flag_number b = cond b 1 0
@@ -43,10 +43,6 @@ chip_numbers v = record {
   received = received_numbers v.received;
   written = written_numbers v.written;
 }
-
--- at most two bytes, and zero in a place that is free
-abbrev pub tidy : SavedReceived → Bool
-tidy s = nat_le s.count 2 && ((nat_le 1 s.count || s.first == 0) && (nat_le 2 s.count || s.second == 0))
 
 abbrev pub received_in : Received → SavedReceived
 received_in h = received_numbers (items h)

@@ -1,5 +1,5 @@
 -- The numbers of drives, scripts and breakers.
-use Rattle.std.specs.Prelude.{◌≡◌, ℕ, Bool, false, ◌&&◌, ◌||◌, List, [], ◌∷◌, Some, None, Option, ◌==◌, ◌≢◌}
+use Rattle.std.specs.Prelude.{◌≡◌, ℕ, List, [], ◌∷◌, Ok, Err, Result, ◌≢◌}
 use Rattle.drive.specs.declared.drive.Stage.{Stage}
 use Rattle.drive.specs.declared.drive.Stage.TheVariants.{Idle, MessageOut, Command, Reply, Complete, Leaving}
 use Rattle.breaker.specs.declared.Progress.{Progress}
@@ -25,27 +25,9 @@ abbrev pub drive_numbers : Stage → SavedDrive
 drive_numbers Idle = plain 0
 drive_numbers MessageOut = plain 1
 drive_numbers (Command c) = record { first = 0; sent = 0; count = 0; stage = 2; taken = c.taken; status = 0; bytes = c.bytes }
-drive_numbers (Reply r sent) = record { first = r.first; sent = sent; count = r.count; stage = 3; taken = 0; status = r.status; bytes = no_bytes }
+drive_numbers (Reply s) = record { first = s.reply.first; sent = s.sent; count = s.reply.count; stage = 3; taken = 0; status = s.reply.status; bytes = no_bytes }
 drive_numbers Complete = plain 4
 drive_numbers Leaving = plain 5
-
--- six zeros
-abbrev pub is_blank : List ℕ → Bool
-is_blank [] = false
-is_blank (a ∷ []) = false
-is_blank (a ∷ b ∷ []) = false
-is_blank (a ∷ b ∷ c ∷ []) = false
-is_blank (a ∷ b ∷ c ∷ d ∷ []) = false
-is_blank (a ∷ b ∷ c ∷ d ∷ e ∷ []) = false
-is_blank (a ∷ b ∷ c ∷ d ∷ e ∷ f ∷ []) = a == 0 && (b == 0 && (c == 0 && (d == 0 && (e == 0 && f == 0))))
-is_blank (a ∷ b ∷ c ∷ d ∷ e ∷ f ∷ g ∷ rest) = false
-
-abbrev pub is_unsent : SavedDrive → Bool
-is_unsent s = s.first == 0 && (s.count == 0 && (s.status == 0 && s.sent == 0))
-
--- what is not in use is zero
-abbrev pub drive_tidy : SavedDrive → Bool
-drive_tidy s = (s.stage == 2 || (s.taken == 0 && is_blank s.bytes)) && (s.stage == 3 || is_unsent s)
 
 abbrev pub break_number : Break → ℕ
 break_number Through = 0
@@ -69,7 +51,7 @@ InTable rows (At n r) = Stands next_of rows n r
 InTable rows End = Unit {0}
 InTable rows LeavingScript = Unit {0}
 
--- numbers of a script are unpacked to the place in the table that has them, or to nothing where there is none
-abbrev pub Places : List Row → SavedScript → Option Place → Type 0
-Places rows saved None = (p : Place) → InTable rows p → script_numbers p ≢ saved
-Places rows saved (Some p) = InTable rows p × (script_numbers p ≡ saved)
+-- numbers of a script are unpacked to the place in the table that has them, or to an error where there is none
+abbrev pub Places : {E : Type 0} → List Row → SavedScript → Result Place E → Type 0
+Places rows saved (Err e) = (p : Place) → InTable rows p → script_numbers p ≢ saved
+Places rows saved (Ok p) = InTable rows p × (script_numbers p ≡ saved)

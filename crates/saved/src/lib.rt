@@ -3,4 +3,5 @@
 
 pub mod chips;
 pub mod numbers;
+pub mod refusal;
 pub mod stations;

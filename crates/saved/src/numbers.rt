@@ -1,8 +1,9 @@
-// What is kept of a string: plain numbers. A flag is 0 or 1, and what is not in use is zero.
+// What is kept of a string: numbers alone, with C's layout, since a host that is not written in Rattle keeps them. A flag is
+// 0 or 1, and what is not in use is zero.
 use chip::chip::Registers;
 
 #[repr(C)]
-#[derive(Clone, Copy)]
+#[derive(Clone, Copy, Debug, PartialEq, Eq)]
 pub struct SavedFlags {
     pub paused: u8,
     pub parity_error: u8,
@@ -12,7 +13,7 @@ pub struct SavedFlags {
 
 // How many bytes are received, and these, oldest first.
 #[repr(C)]
-#[derive(Clone, Copy)]
+#[derive(Clone, Copy, Debug, Default, PartialEq, Eq)]
 pub struct SavedReceived {
     pub count: u8,
     pub first: u8,
@@ -21,7 +22,7 @@ pub struct SavedReceived {
 
 // Whether a byte is written (1) or not (0), that byte, and the phase for which it was.
 #[repr(C)]
-#[derive(Clone, Copy)]
+#[derive(Clone, Copy, Debug, Default, PartialEq, Eq)]
 pub struct SavedWritten {
     pub count: u8,
     pub byte: u8,
@@ -29,7 +30,7 @@ pub struct SavedWritten {
 }
 
 #[repr(C)]
-#[derive(Clone, Copy)]
+#[derive(Clone, Copy, Debug, PartialEq, Eq)]
 pub struct SavedChip {
     pub registers: Registers,
     pub id: u8,
@@ -45,7 +46,7 @@ pub struct SavedChip {
 // How far a drive is: 0 idle, 1 a message is due, 2 a command comes in, 3 an answer goes out, 4 Command Complete is due,
 // 5 it leaves. `taken` and `bytes` are of the command, the others of the answer.
 #[repr(C)]
-#[derive(Clone, Copy)]
+#[derive(Clone, Copy, Debug, PartialEq, Eq)]
 pub struct SavedDrive {
     pub first: u32,
     pub sent: u32,
@@ -58,7 +59,7 @@ pub struct SavedDrive {
 
 // Where a script stands: 0 at the record of this number, 1 at its end, 2 at the end and leaving.
 #[repr(C)]
-#[derive(Clone, Copy)]
+#[derive(Clone, Copy, Debug, PartialEq, Eq)]
 pub struct SavedScript {
     pub number: u64,
     pub place: u8,
@@ -66,7 +67,7 @@ pub struct SavedScript {
 
 // How far a breaker is: 0 there is no break, 1 to 5 its steps. With `after` zero it never breaks.
 #[repr(C)]
-#[derive(Clone, Copy)]
+#[derive(Clone, Copy, Debug, PartialEq, Eq)]
 pub struct SavedBreaker {
     pub after: u16,
     pub passed: u16,
