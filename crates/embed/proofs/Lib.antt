@@ -1,4 +1,3 @@
 pub mod Seeing
 pub mod Serving
-pub mod Driving
-pub mod Scripting
+pub mod Keeping

@@ -1,1 +1,4 @@
+pub mod Kinds
 pub mod States
+pub mod Driving
+pub mod Scripting

@@ -3,5 +3,7 @@
 #![tactic(auto)]
 
 mod exports;
+mod kept;
+pub mod refusal;
 mod serve;
 pub mod state;

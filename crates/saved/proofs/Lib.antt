@@ -1,3 +1,4 @@
 pub mod One
 pub mod OneStation
 pub mod OneBreaker
+pub mod Tables

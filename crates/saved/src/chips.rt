@@ -3,9 +3,9 @@ ghost use Rattle.std.specs.Prelude.{◌≡◌};
 ghost use Rattle.chip.specs.Model.{items};
 ghost use Rattle.saved.specs.Chips.{flag_number, flag_numbers, received_numbers, received_in, written_numbers, chip_in, together, Unpacks};
 
+use super::addresses::address_of;
 use super::numbers::{SavedChip, SavedFlags, SavedReceived, SavedWritten};
 use super::refusal::NotSaved;
-use bus::address::StationAddress;
 use bus::phase::Phase;
 use chip::chip::{Flags, Ncr5385e, Received, Written};
 use registers::state::State;
@@ -122,6 +122,7 @@ impl TryFrom<SavedReceived> for Received {
             bytes: [saved.first, saved.second],
             count: saved.count as usize,
         };
+        // A free place is zero.
         if SavedReceived::from(received) == saved {
             Ok(received)
         } else {
@@ -170,9 +171,7 @@ impl TryFrom<SavedChip> for Ncr5385e {
     ghost try_from_gives = { Unpacks chip_in };
 
     fn try_from(saved: SavedChip) -> Result<Ncr5385e, NotSaved> {
-        if saved.id > 7 {
-            return Err(NotSaved::Address);
-        }
+        let id = address_of(saved.id)?;
         if saved.registers.counter >= COUNTER_END {
             return Err(NotSaved::Count);
         }
@@ -185,7 +184,7 @@ impl TryFrom<SavedChip> for Ncr5385e {
         let received = Received::try_from(saved.received)?;
         let written = Option::<Written>::try_from(saved.written)?;
         Ok(Ncr5385e {
-            id: StationAddress::new(saved.id),
+            id,
             state,
             latched,
             single: saved.single,

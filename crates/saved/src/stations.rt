@@ -3,10 +3,10 @@ ghost use Rattle.std.specs.Prelude.{◌≡◌};
 ghost use Rattle.saved.specs.Chips.{Unpacks};
 ghost use Rattle.saved.specs.Stations.{plain, drive_numbers, script_numbers, Places, break_number, progress_numbers};
 
+use super::addresses::address_of;
 use super::numbers::{SavedBreaker, SavedDrive, SavedScript};
 use super::refusal::NotSaved;
 use breaker::{Progress, Stage as Break};
-use bus::address::StationAddress;
 use drive::command::{CommandBlock, Reply};
 use drive::drive::Stage;
 use drive::sending::Sending;
@@ -83,6 +83,7 @@ impl TryFrom<SavedDrive> for Stage {
             5 => Stage::Leaving,
             _ => return Err(NotSaved::Stage),
         };
+        // What is not in use is zero: these are the numbers of that very stage.
         if SavedDrive::from(stage) == saved {
             Ok(stage)
         } else {
@@ -163,12 +164,9 @@ impl TryFrom<SavedBreaker> for Progress {
     ghost try_from_gives = { Unpacks progress_numbers };
 
     fn try_from(saved: SavedBreaker) -> Result<Progress, NotSaved> {
-        if saved.host > 7 {
-            return Err(NotSaved::Address);
-        }
         Ok(Progress {
             after: saved.after,
-            host: StationAddress::new(saved.host),
+            host: address_of(saved.host)?,
             passed: saved.passed,
             stage: break_numbered(saved.stage)?,
         })
