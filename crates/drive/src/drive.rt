@@ -44,6 +44,12 @@ impl<'a> Drive<'a> {
         ensures serves { ServesAll result }
         ensures edge { Edge image.now }
     {
+        Drive::off(image, address)
+    }
+
+    fn off(image: &'a [u8], address: StationAddress) -> Self
+        ensures { IdleDrive image.now address result }
+    {
         Drive::resume(image, address, Stage::Idle)
     }
 

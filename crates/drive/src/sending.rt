@@ -15,6 +15,7 @@ pub struct Sending {
 
 impl Sending {
     // The byte that is due, if one is left.
+    #[tactic(auto, using(crate::proofs::Blocks::none_left, crate::proofs::Blocks::stands, crate::proofs::Blocks::any_found))]
     pub fn due(self, image: Image<'_>) -> Option<u8>
         ensures value { result ≡ first_of (left_of image.entry.bytes.now self) }
         ensures bound { OnSome result (self.sent < 2 ^ 25) }
@@ -30,8 +31,8 @@ impl Sending {
     pub fn left(self, image: Image<'_>) -> usize
         ensures { result ≡ length (left_of image.entry.bytes.now self) }
     {
-        let there = image.bytes_from(self.reply.first as usize);
-        there
+        image
+            .bytes_from(self.reply.first as usize)
             .min(self.reply.count as usize * BLOCK)
             .saturating_sub(self.sent as usize)
     }

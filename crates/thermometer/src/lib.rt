@@ -14,14 +14,14 @@ use bus::phase::Phase;
 use bus::station::Station;
 use bus::wish::Wish;
 
-#[derive(Clone, Copy)]
+#[derive(Clone, Copy, Debug, PartialEq, Eq)]
 pub enum Stage {
     Resting,
     Showing,
     Leaving,
 }
 
-#[derive(Clone, Copy)]
+#[derive(Clone, Copy, Debug, PartialEq, Eq)]
 pub struct Thermometer {
     address: StationAddress,
     reading: u8,
@@ -58,7 +58,7 @@ impl Station for Thermometer {
     }
 
     fn chosen(&mut self, address: StationAddress, _atn: bool) -> bool {
-        if !self.wish().is_off() || self.address.number() != address.number() {
+        if !self.wish().is_off() || self.address != address {
             return false;
         }
         self.stage = Stage::Showing;
