@@ -19,6 +19,13 @@ pub trait Station {
     fn address(&self) -> StationAddress
         ensures { result.number ≡ meaning.address self.now };
 
+    // Whether it says yes to an address: it is off, and the address is its own.
+    fn says_yes(&self, address: StationAddress) -> bool
+        ensures { result ≡ says_yes meaning self.now address.number }
+    {
+        self.wish().is_off() && self.address() == address
+    }
+
     // Chosen: an initiator selects this address, with ATN on or off. The answer is whether the station responds.
     fn chosen(&mut self, address: StationAddress, atn: bool) -> bool
         ensures value { result ≡ says_yes meaning self.old address.number }

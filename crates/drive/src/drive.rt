@@ -135,7 +135,7 @@ impl<'a> Station for Drive<'a> {
     }
 
     fn chosen(&mut self, address: StationAddress, atn: bool) -> bool {
-        if !self.wish().is_off() || self.address != address {
+        if !self.says_yes(address) {
             return false;
         }
         self.stage = if atn {

@@ -146,7 +146,7 @@ impl<'a> Station for Script<'a> {
     }
 
     fn chosen(&mut self, address: StationAddress, _atn: bool) -> bool {
-        if !self.wish().is_off() || self.address != address {
+        if !self.says_yes(address) {
             return false;
         }
         self.place = self.next_place();

@@ -58,7 +58,7 @@ impl Station for Thermometer {
     }
 
     fn chosen(&mut self, address: StationAddress, _atn: bool) -> bool {
-        if !self.wish().is_off() || self.address != address {
+        if !self.says_yes(address) {
             return false;
         }
         self.stage = Stage::Showing;
