@@ -41,6 +41,7 @@ impl TryFrom<Row> for Record {
 
 impl Record {
     // The wish that the record is played as.
+    #[tactic(auto, using(crate::proofs::Reading::is_wish, crate::proofs::Reading::reads_as))]
     pub fn wish(self) -> Wish
         ensures value { result ≡ wish_of self.row }
         ensures numbers { Reads self.row result }

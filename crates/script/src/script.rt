@@ -91,6 +91,7 @@ impl<'a> Script<'a> {
     }
 
     // Along the chain to its end. A loop: `successors` would take this same step in a closure, and stop by a second one.
+    #[tactic(auto, using(crate::proofs::Counting::fewer, crate::proofs::Counting::one_more))]
     fn bytes_left(&self) -> usize
         ensures { result ≡ length (waiting_at self.now.rows.now self.now.place) }
     {
