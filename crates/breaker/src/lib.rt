@@ -65,6 +65,7 @@ pub struct Breaker<S> {
 impl<S: Station> Breaker<S> {
     // Over a station as it is. Whatever calls come, the bytes that are taken and that join are those of the station
     // below, and between two breaks exactly so many are taken.
+    #[tactic(auto, using(crate::proofs::Passing::changes_nothing, crate::proofs::Counting::breaks))]
     pub fn new(below: S, after: u16, host: StationAddress) -> Self
         ensures made { Made below after host result }
         ensures bytes { ChangesNothing S.meaning result }

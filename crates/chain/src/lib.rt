@@ -26,6 +26,7 @@ pub fn leads(records: usize, number: usize, next: usize) -> bool
 }
 
 // Counts the records of the chain that begins at record 1, or refuses with the first one whose next ends it wrongly.
+#[tactic(auto, using(crate::proofs::Keeps::rule))]
 pub fn check<R: Linked>(records: &[R]) -> Result<usize, ChainRefusal>
     ensures value { result ≡ verdict R.Linked.next records.now }
     ensures rule { Rule R.Linked.next records.now }
@@ -34,6 +35,7 @@ pub fn check<R: Linked>(records: &[R]) -> Result<usize, ChainRefusal>
 }
 
 // A loop, which breaks with its answer: the count and the last record come from one and the same walk.
+#[tactic(auto, using(crate::proofs::Steps::led, crate::proofs::Keeps::empty, crate::proofs::Keeps::counted, crate::proofs::Keeps::refused, crate::proofs::Keeps::onward))]
 fn walk<R: Linked>(records: &[R]) -> Result<usize, ChainRefusal>
     ensures { result ≡ verdict R.Linked.next records.now }
 {
