@@ -2,7 +2,6 @@
 #![tactic(auto)]
 
 ghost use Rattle.std.specs.Prelude.{◌≡◌};
-ghost use Rattle.bus.specs.Messages.{message_byte};
 ghost use Rattle.breaker.specs.Breakers.{is_due, standing, passed_on, breaker_meaning, progress_of, starting, Made};
 ghost use Rattle.breaker.specs.Breaks.{ChangesNothing, Breaks};
 ghost use Rattle.breaker.specs.BreakerLawful.{breaker_lawful};
@@ -10,7 +9,6 @@ ghost use Rattle.breaker.specs.BreakerLawful.{breaker_lawful};
 use bus::address::StationAddress;
 use bus::message::Message;
 use bus::parity::Parity;
-use bus::phase::Phase;
 use bus::station::{Station, Tally};
 use bus::wish::Wish;
 
@@ -125,13 +123,6 @@ impl<S: Station> Breaker<S> {
     }
 }
 
-// A byte of a break, in Message In.
-fn says(message: Message) -> Wish
-    ensures { result ≡ Wish.Req Phase.MessageIn (message_byte message) Parity.Good }
-{
-    Wish::Req(Phase::MessageIn, u8::from(message), Parity::Good)
-}
-
 impl<S: Station> Station for Breaker<S> {
     ghost meaning = { breaker_meaning S.Station.meaning };
 
@@ -140,14 +131,14 @@ impl<S: Station> Station for Breaker<S> {
     fn wish(&self) -> Wish {
         match self.standing() {
             Stage::Through => self.below.wish(),
-            Stage::Saving => says(Message::SaveDataPointer),
-            Stage::Disconnecting => says(Message::Disconnect),
+            Stage::Saving => Wish::message(Message::SaveDataPointer),
+            Stage::Disconnecting => Wish::message(Message::Disconnect),
             Stage::Leaving => Wish::Go,
             Stage::Returning => {
                 let own = self.below.address();
                 Wish::Back(own.encode().join(self.progress.host.encode()), Parity::Good)
             }
-            Stage::Identifying => says(Message::Identify),
+            Stage::Identifying => Wish::message(Message::Identify),
         }
     }
 

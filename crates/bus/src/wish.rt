@@ -1,9 +1,11 @@
 // What a station wants of the cable.
 ghost use Rattle.std.specs.Prelude.{◌≡◌};
 ghost use Rattle.std.specs.Option.{option_to_list};
+ghost use Rattle.bus.specs.Messages.{message_byte};
 ghost use Rattle.bus.specs.Wishes.{wish_kind, asking, offers, shows_data, takes_byte, is_off};
 
 use super::address::IdByte;
+use super::message::Message;
 use super::parity::Parity;
 use super::phase::Phase;
 use std::fmt;
@@ -47,6 +49,13 @@ impl Wish {
         } else {
             Wish::Req(phase, 0, Parity::Good)
         }
+    }
+
+    // A message to the initiator.
+    pub fn message(message: Message) -> Self
+        ensures { result ≡ Wish.Req Phase.MessageIn (message_byte message) Parity.Good }
+    {
+        Wish::Req(Phase::MessageIn, u8::from(message), Parity::Good)
     }
 
     // The Data In byte that the wish shows.

@@ -72,19 +72,16 @@ impl<'a> Drive<'a> {
     }
 
     // After one more byte of a command, the sixth of which has it answered.
-    fn receive(&self, command: CommandBlock, byte: u8) -> Stage
+    fn receive(&self, mut command: CommandBlock, byte: u8) -> Stage
         ensures { result ≡ received (store_of self.now) command byte }
     {
-        let mut bytes = command.bytes;
         if command.taken < 5 {
-            bytes[command.taken as usize] = byte;
-            return Stage::Command(CommandBlock {
-                bytes,
-                taken: command.taken + 1,
-            });
+            command.bytes[command.taken as usize] = byte;
+            command.taken += 1;
+            return Stage::Command(command);
         }
-        bytes[5] = byte;
-        let reply = Command::from(bytes).reply(self.image.blocks());
+        command.bytes[5] = byte;
+        let reply = Command::from(command.bytes).reply(self.image.blocks());
         Stage::Reply(Sending { reply, sent: 0 })
     }
 
@@ -122,10 +119,7 @@ impl<'a> Station for Drive<'a> {
                 Some(byte) => Wish::Req(Phase::DataIn, byte, Parity::Good),
                 None => Wish::Req(Phase::Status, sending.reply.status, Parity::Good),
             },
-            Stage::Complete => {
-                let message = u8::from(Message::CommandComplete);
-                Wish::Req(Phase::MessageIn, message, Parity::Good)
-            }
+            Stage::Complete => Wish::message(Message::CommandComplete),
             Stage::Leaving => Wish::Go,
         }
     }

@@ -10,7 +10,8 @@ use bus::parity::Parity;
 use bus::phase::Phase;
 use bus::wish::Wish;
 
-// A row that can be played: it has a kind, a phase and a parity that exist.
+// A row that can be played: it has a kind, a phase and a parity that exist. It keeps the row's numbers, since it is made anew
+// each time that the row is played.
 #[derive(Clone, Copy, Debug, PartialEq, Eq)]
 pub struct Record {
     row: Row,

@@ -9,7 +9,7 @@ use chain::refusal::ChainRefusal;
 // How many rows of a table count.
 pub const MOST_ROWS: usize = 4096;
 
-// Five plain numbers, which need not make sense.
+// Five plain numbers, which need not make sense: a table is played as it was lent.
 #[derive(Clone, Copy, Debug, PartialEq, Eq)]
 pub struct Row {
     // 0 Off, 1 Back, 2 Hold, 3 Req, 4 Go
