@@ -46,7 +46,7 @@ unanswered place = record {
 abbrev replying : Image → ReplyOf → Line Drive
 replying image r =
     let l = after drive_meaning commanding (with_drive image) in
-    line l.chip (record { image = image; address = l.station.address; stage = Reply r 0 })
+    line l.chip (record { image = image; address = l.station.address; stage = Reply (record { reply = r; sent = 0 }) })
 
 abbrev replied : ℕ → ReplyOf
 replied blocks = reply_to blocks (decoded read_command)
@@ -60,7 +60,7 @@ beyond image h =
     let S : ReplyOf → Type 0 = λ r. shows drive_meaning 0 one_byte (replying image r) ≡ 2 in
     record { waits = subst W e refl; phase = subst P e refl; status = subst S e refl }
 
-long : (bytes : List ℕ) → length bytes / 512 ≡ 257 → length (left_of bytes (reply 1 256 0) 0) ≡ 131072
+long : (bytes : List ℕ) → length bytes / 512 ≡ 257 → length (left_of bytes (record { reply = reply 1 256 0; sent = 0 })) ≡ 131072
 long bytes h = simp (length-take, length-drop) (omega arith)
 
 within : (image : Image) → blocks_in image.bytes.now ≡ 257 → length (drive_meaning.waiting (after drive_meaning commanding (with_drive image)).station) ≡ 131072

@@ -4,26 +4,27 @@
 
 ghost use Rattle.std.specs.Prelude.{[], ◌∷◌, ◌++◌};
 ghost use Rattle.account.specs.Accounts.{KeepsAccount};
-ghost use Rattle.account.specs.Laws.Call.{read as a_read, write as a_write, dma_read as a_dma_read, dma_write as a_dma_write, tick as a_tick, turn as a_turn, reset as a_reset};
+ghost use Rattle.registers.specs.declared.call.Call.TheVariants.{Read as a_read, Write as a_write, DmaRead as a_dma_read, DmaWrite as a_dma_write, Tick as a_tick, Turn as a_turn, Reset as a_reset};
 ghost use Rattle.scsi_string.specs.Strings.{values};
 ghost use Rattle.client.specs.Surveys.{Kept, calls_run, answers_run};
 
 use bus::address::StationAddress;
 use bus::station::Station;
 use registers::answer::Answer;
-use registers::call::{Call, Ran, RunRefusal};
+use registers::call::{CallRow, Ran, RunRefusal};
+use registers::register::Register;
 use scsi_string::ScsiString;
 
 // The registers that the client uses.
-const COMMAND: u8 = 1;
+const COMMAND: u8 = Register::Command as u8;
 
-const DESTINATION: u8 = 3;
+const DESTINATION: u8 = Register::DestinationId as u8;
 
-const STATUS: u8 = 4;
+const STATUS: u8 = Register::AuxiliaryStatus as u8;
 
-const INTERRUPT: u8 = 6;
+const INTERRUPT: u8 = Register::Interrupt as u8;
 
-const COUNTER_LOW: u8 = 14;
+const COUNTER_LOW: u8 = Register::CounterLow as u8;
 
 // Select without ATN.
 const SELECT: u8 = 9;
@@ -50,7 +51,7 @@ pub fn survey<S: Station>(
     address: StationAddress,
     station: S,
     destination: u8,
-    calls: &[Call],
+    calls: &[CallRow],
     answers: &mut [Answer],
 ) -> Findings<S>
     ensures { Kept S.meaning station

@@ -4,30 +4,31 @@ ghost use Rattle.registers.specs.Calls.{call_of};
 ghost use Rattle.account.specs.Runs.{listed_reads};
 ghost use Rattle.fates.specs.Trials.{reads_byte, record_in, same, NextRead};
 
+use bus::phase::Phase;
 use registers::answer::Answer;
-use registers::call::Call;
+use registers::call::{Call, CallRow};
 use registers::register::Register;
 
 // A read of Data, or a DMA read.
-fn reads_data(call: Call) -> bool
+fn reads_data(call: CallRow) -> bool
     ensures { result ≡ listed_reads (call_of call) }
 {
-    match call.kind {
-        0 => Register::at(call.address).is_data(),
-        2 => true,
+    match Call::try_from(call) {
+        Ok(Call::Read(address)) => Register::at(address) == Some(Register::Data),
+        Ok(Call::DmaRead) => true,
         _ => false,
     }
 }
 
 // Whether an answer tells a Data In byte read.
-fn reads_byte(call: Call, answer: Answer) -> bool
+fn reads_byte(call: CallRow, answer: Answer) -> bool
     ensures { result ≡ reads_byte call answer }
 {
-    answer.phase == 4 && answer.refusal == 0 && reads_data(call)
+    answer.phase == u8::from(Phase::DataIn) && answer.refusal == 0 && reads_data(call)
 }
 
 // The first byte of the record from the call at `from` on, and the place behind it.
-fn next_read(calls: &[Call], answers: &[Answer], from: usize) -> Option<(u8, usize)>
+fn next_read(calls: &[CallRow], answers: &[Answer], from: usize) -> Option<(u8, usize)>
     ensures { NextRead calls.now answers.now from result }
 {
     let mut at = from;
@@ -42,9 +43,9 @@ fn next_read(calls: &[Call], answers: &[Answer], from: usize) -> Option<(u8, usi
 
 // Whether two records are equal: the Data In bytes read by two lists of calls, in their order.
 pub fn same_record(
-    calls: &[Call],
+    calls: &[CallRow],
     answers: &[Answer],
-    other_calls: &[Call],
+    other_calls: &[CallRow],
     other_answers: &[Answer],
 ) -> bool
     ensures { result ≡ same (record_in calls.now answers.now) (record_in other_calls.now other_answers.now) }

@@ -11,7 +11,7 @@ use super::records::same_record;
 use bus::address::StationAddress;
 use bus::station::Station;
 use registers::answer::Answer;
-use registers::call::{Call, Ran, RunRefusal};
+use registers::call::{CallRow, Ran, RunRefusal};
 use scsi_string::ScsiString;
 
 // Makes a string over a station, runs a list of calls on it, and hands it back with what the run told. Every byte that the
@@ -19,7 +19,7 @@ use scsi_string::ScsiString;
 pub fn trial<S: Station>(
     address: StationAddress,
     station: S,
-    calls: &[Call],
+    calls: &[CallRow],
     answers: &mut [Answer],
 ) -> (ScsiString<S>, Result<Ran, RunRefusal>)
     ensures { TrialSays S.meaning address.number station calls.now answers.old (values result.0) answers.new result.1 }
@@ -30,7 +30,7 @@ pub fn trial<S: Station>(
 fn make_and_run<S: Station>(
     address: StationAddress,
     station: S,
-    calls: &[Call],
+    calls: &[CallRow],
     answers: &mut [Answer],
 ) -> (ScsiString<S>, Result<Ran, RunRefusal>)
     ensures { RunSays S.meaning calls.now (line (made_new address.number) station) answers.old (values result.0) answers.new result.1 }
@@ -53,10 +53,10 @@ pub struct Comparison<P, Q> {
 // equal exactly when the stations put up equal bytes.
 pub fn compare<P: Station, Q: Station>(
     first: (StationAddress, P),
-    first_calls: &[Call],
+    first_calls: &[CallRow],
     first_answers: &mut [Answer],
     second: (StationAddress, Q),
-    second_calls: &[Call],
+    second_calls: &[CallRow],
     second_answers: &mut [Answer],
 ) -> Comparison<P, Q>
     ensures first { TrialSays P.Station.meaning first.0.number first.1 first_calls.now first_answers.old (values result.first) first_answers.new result.first_ran }
@@ -83,11 +83,11 @@ pub fn compare<P: Station, Q: Station>(
 fn run_both<P: Station, Q: Station>(
     address: StationAddress,
     station: P,
-    calls: &[Call],
+    calls: &[CallRow],
     answers: &mut [Answer],
     other_address: StationAddress,
     other_station: Q,
-    other_calls: &[Call],
+    other_calls: &[CallRow],
     other_answers: &mut [Answer],
 ) -> Comparison<P, Q>
     ensures first { TrialSays P.Station.meaning address.number station calls.now answers.old (values result.first) answers.new result.first_ran }

@@ -2,43 +2,19 @@
 use bus::address::StationAddress;
 use bus::station::Station;
 use drive::drive::Drive;
-use registers::answer::Answer;
+use registers::call::Call;
+use registers::call::Call::{DmaRead, DmaWrite, Read, Reset, Tick, Turn, Write};
 use script::row::Row;
 use script::script::Script;
 use scsi_string::ScsiString;
 use std::process::Abort;
-
-#[derive(Clone, Copy)]
-enum Call {
-    Read(u8),
-    Write(u8, u8),
-    DmaRead,
-    DmaWrite(u8),
-    Tick,
-    Turn,
-    Reset,
-}
-
-use Call::{DmaRead, DmaWrite, Read, Reset, Tick, Turn, Write};
-
-fn make<S: Station>(string: &mut ScsiString<S>, call: Call) -> Answer {
-    match call {
-        Read(address) => string.read(address),
-        Write(address, value) => string.write(address, value),
-        DmaRead => string.dma_read(),
-        DmaWrite(value) => string.dma_write(value),
-        Tick => string.tick(),
-        Turn => string.turn(),
-        Reset => string.reset(),
-    }
-}
 
 // A call, and what it answers: refusal, value, lines, lost.
 type Expected = (Call, (u8, u8, u8, u8));
 
 fn session<S: Station>(rt: &impl Abort, string: &mut ScsiString<S>, table: &[Expected]) {
     for (call, expected) in table {
-        let answer = make(string, *call);
+        let answer = string.make(*call);
         assert_eq!(rt;
             (answer.refusal, answer.value, answer.lines, answer.lost),
             *expected
