@@ -1,12 +1,13 @@
 // What can be said of a chip at any time, and the answers that calls are made of.
 ghost use Rattle.std.specs.Prelude.{◌≡◌, ◌≤◌, length, if◌then◌else◌};
 ghost use Rattle.bus.specs.Phases.{phase_number, in_data_in};
+ghost use Rattle.registers.specs.Answers.{direction_number};
 ghost use Rattle.chip.specs.Model.{model};
 ghost use Rattle.chip.specs.Outcomes.{outcome, is_single, is_pad, left, in_dma, wants_byte, dreq, lines_of, quiet, valued, moved, loss, silent, tells, refused};
 
 use super::chip::{Loss, Ncr5385e};
 use bus::phase::Phase;
-use registers::answer::{ACK, ATN, Answer, CONNECTED, DREQ, INT, Reaction, Response};
+use registers::answer::{ACK, ATN, Answer, CONNECTED, DREQ, Direction, INT, Reaction, Response};
 use registers::refusal::Refusal;
 
 // A bit that is on or off, with its weight.
@@ -111,11 +112,11 @@ impl Ncr5385e {
     }
 
     // A byte that moved on the cable.
-    pub(crate) fn moved(&self, cable: u8, byte: u8, phase: Phase, lost: u8) -> Answer
-        ensures { result ≡ moved cable byte (phase_number phase) lost (model self.now) }
+    pub(crate) fn moved(&self, way: Direction, byte: u8, phase: Phase, lost: u8) -> Answer
+        ensures { result ≡ moved (direction_number way) byte (phase_number phase) lost (model self.now) }
     {
         Answer {
-            cable,
+            cable: way.into(),
             byte,
             phase: phase.into(),
             lost,

@@ -14,7 +14,7 @@ use bus::address::{IdByte, StationAddress};
 use bus::parity::Parity;
 use bus::phase::Phase;
 use bus::wish::Wish;
-use registers::answer::{Reaction, Response};
+use registers::answer::{Direction, Reaction, Response};
 use registers::cause::Cause;
 use registers::refusal::Refusal;
 use registers::state::State;
@@ -203,12 +203,12 @@ impl Ncr5385e {
             self.flags.ack = true;
             return Response {
                 reaction: Reaction::Nothing,
-                answer: self.moved(1, byte, self.latched, lost),
+                answer: self.moved(Direction::In, byte, self.latched, lost),
             };
         }
         Response {
             reaction: Reaction::Tell(0),
-            answer: self.moved(1, byte, self.latched, lost),
+            answer: self.moved(Direction::In, byte, self.latched, lost),
         }
     }
 
@@ -284,7 +284,7 @@ impl Ncr5385e {
         self.end_message();
         Response {
             reaction: Reaction::Tell(written.byte),
-            answer: self.moved(2, written.byte, written.phase, 0),
+            answer: self.moved(Direction::Out, written.byte, written.phase, 0),
         }
     }
 }

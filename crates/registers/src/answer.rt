@@ -1,5 +1,6 @@
 // What a call answers, and what it asks of the station.
-ghost use Rattle.registers.specs.Answers.{HeardByNone};
+ghost use Rattle.std.specs.Prelude.{◌≡◌};
+ghost use Rattle.registers.specs.Answers.{direction_number, HeardByNone};
 
 // The lines of an answer, each by its weight.
 pub const INT: u8 = 0x01;
@@ -12,6 +13,13 @@ pub const ACK: u8 = 0x08;
 
 pub const CONNECTED: u8 = 0x10;
 
+// Which way a byte moved on the cable.
+#[derive(Clone, Copy, Debug, PartialEq, Eq)]
+pub enum Direction {
+    In = 1,
+    Out = 2,
+}
+
 // Seven plain numbers with C's layout, since a host that is not written in Rattle lends the room for them; those that a call
 // has no use for are zero.
 #[repr(C)]
@@ -23,7 +31,7 @@ pub struct Answer {
     pub value: u8,
     // INT, DREQ, ATN, ACK and connected, as they are after the call
     pub lines: u8,
-    // 0 no byte moved on the cable, 1 one came in, 2 one went out
+    // the direction in which a byte moved on the cable, zero where none did
     pub cable: u8,
     // the byte that moved
     pub byte: u8,
@@ -47,6 +55,15 @@ pub enum Reaction {
 pub struct Response {
     pub reaction: Reaction,
     pub answer: Answer,
+}
+
+// The direction's number, as an answer tells it.
+impl From<Direction> for u8 {
+    ghost from_gives = { λ d n. n ≡ direction_number d };
+
+    fn from(direction: Direction) -> u8 {
+        direction as u8
+    }
 }
 
 // An answer of which the station hears nothing.
