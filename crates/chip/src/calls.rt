@@ -197,7 +197,7 @@ impl Ncr5385e {
         let reaction = self.dropping_ack();
         self.registers.counter = 0;
         self.go_idle();
-        self.registers.interrupt = Cause::Disconnected.into();
+        self.raise(Cause::Disconnected);
         Response {
             reaction,
             answer: self.quiet(),

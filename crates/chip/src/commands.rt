@@ -1,9 +1,10 @@
 // The commands of the chip, and what it does to be new, idle or disabled.
 ghost use Rattle.std.specs.Prelude.{◌≡◌, true, false, is_some, if◌then◌else◌};
+ghost use Rattle.registers.specs.Causes.{cause_number};
 ghost use Rattle.registers.specs.States.{is_transferring};
 ghost use Rattle.chip.specs.Model.{model};
 ghost use Rattle.chip.specs.Orders.{resets, accepted, started, offered, disconnects, pauses, shut_down, disables, commanded};
-ghost use Rattle.chip.specs.Outcomes.{outcome, dropping_ack, gone_idle, emptied, made_new, written_phase, held_count, held_phase};
+ghost use Rattle.chip.specs.Outcomes.{outcome, dropping_ack, raised, gone_idle, emptied, made_new, written_phase, held_count, held_phase};
 
 use super::answers::is_single;
 use super::chip::{Flags, Loss, Ncr5385e, Received, Registers};
@@ -107,6 +108,15 @@ impl Ncr5385e {
         self.registers.command = 0;
     }
 
+    // An interrupt is raised: Interrupt shows its cause, and no command is under way any more.
+    pub(crate) fn raise(&mut self, cause: Cause)
+        requires { is_transferring self.old.state ≡ false }
+        ensures { model self.new ≡ raised (cause_number cause) (model self.old) }
+    {
+        self.registers.command = 0;
+        self.registers.interrupt = cause.into();
+    }
+
     fn disconnect(&mut self) -> Response
         ensures { outcome (model self.new) result ≡ disconnects (model self.old) }
     {
@@ -186,8 +196,7 @@ impl Ncr5385e {
         ensures { outcome (model self.new) result ≡ started false self.old.state (model self.old) 0 }
     {
         let lost = self.accept();
-        self.registers.command = 0;
-        self.registers.interrupt = Cause::InvalidCommand.into();
+        self.raise(Cause::InvalidCommand);
         self.loss(lost).into()
     }
 

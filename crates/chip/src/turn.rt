@@ -47,8 +47,7 @@ impl Ncr5385e {
                     Some(station) => {
                         self.registers.source = 0x80 + station;
                         self.state = State::Waiting;
-                        self.registers.command = 0;
-                        self.registers.interrupt = Cause::Reselected.into();
+                        self.raise(Cause::Reselected);
                         self.tell()
                     }
                     None => self.done(),
@@ -144,8 +143,7 @@ impl Ncr5385e {
     {
         self.state = State::Asked;
         self.latched = phase;
-        self.registers.command = 0;
-        self.registers.interrupt = Cause::BusService.into();
+        self.raise(Cause::BusService);
     }
 
     // A command is done, and the chip connected.
@@ -154,8 +152,7 @@ impl Ncr5385e {
         ensures { model self.new ≡ completed (model self.old) }
     {
         self.state = State::Waiting;
-        self.registers.command = 0;
-        self.registers.interrupt = Cause::FunctionComplete.into();
+        self.raise(Cause::FunctionComplete);
     }
 
     // The station dropped BSY.
@@ -164,7 +161,7 @@ impl Ncr5385e {
         ensures { outcome (model self.new) result ≡ let_go (model self.old) }
     {
         self.go_idle();
-        self.registers.interrupt = Cause::Disconnected.into();
+        self.raise(Cause::Disconnected);
         self.tell()
     }
 
