@@ -1,7 +1,8 @@
 -- Reading and writing registers and bytes of data, ticks and the reset: what each leaves and answers.
-use Rattle.std.specs.Prelude.{ℕ, ◌+◌, ◌-◌, ◌*◌, ◌/◌, ◌%◌, Bool, false, cond, not, ◌&&◌, ◌||◌, drop, is_some, Some, None, Option, ◌==◌, bit_and, nat_lt, slice_index}
+use Rattle.std.specs.Prelude.{ℕ, ◌+◌, ◌-◌, ◌*◌, ◌/◌, ◌%◌, Bool, false, cond, not, ◌&&◌, ◌||◌, drop, is_some, Some, None, Option, Ok, Err, Result, ◌==◌, bit_and, nat_lt, slice_index}
 use Rattle.bus.specs.Phases.{phase_number}
 use Rattle.registers.specs.declared.answer.Reaction.TheVariants.{Nothing}
+use Rattle.registers.specs.declared.refusal.Refusal.{Refusal}
 use Rattle.registers.specs.declared.refusal.Refusal.TheVariants.{NoRegister, ReadOnly, ChipDisabled, Busy, NoByte, Dma}
 use Rattle.registers.specs.declared.register.Register.{Register}
 use Rattle.registers.specs.declared.register.Register.TheVariants.{Data, Command, Control, DestinationId, AuxiliaryStatus, Id, Interrupt, SourceId, DiagnosticStatus, CounterHigh, CounterMiddle, CounterLow}
@@ -98,6 +99,10 @@ writes v a x = cond (is_disabled v.state && not (is_chip_reset a x)) (refused Ch
 -- what only a DMA transfer takes
 abbrev pub by_dma : View → Outcome → Outcome
 by_dma v o = cond (is_disabled v.state) (refused ChipDisabled v) (cond (in_dma v) o (refused Dma v))
+
+-- why DMA is refused, if it is
+abbrev pub dma_check : View → Result (Unit {0}) Refusal
+dma_check v = cond (is_disabled v.state) (Err ChipDisabled) (cond (in_dma v) (Ok tt) (Err Dma))
 
 abbrev pub dma_reads : View → Outcome
 dma_reads v = by_dma v (takes_data v)

@@ -2,7 +2,7 @@
 ghost use Rattle.std.specs.Prelude.{◌≡◌};
 ghost use Rattle.chip.specs.Model.{model};
 ghost use Rattle.chip.specs.Outcomes.{outcome};
-ghost use Rattle.chip.specs.Reads.{status_of, shows, takes_data, puts_data, read_register, reads, is_chip_reset, write_register, writes, dma_reads, dma_writes, runs_out, ticks};
+ghost use Rattle.chip.specs.Reads.{status_of, shows, takes_data, puts_data, read_register, reads, is_chip_reset, write_register, writes, dma_check, dma_reads, dma_writes, runs_out, ticks};
 
 use super::answers::flag;
 use super::chip::{Ncr5385e, Written};
@@ -163,30 +163,37 @@ impl Ncr5385e {
         }
     }
 
+    // DMA moves bytes in a DMA transfer, and nowhere else.
+    fn check_dma(&self) -> Result<(), Refusal>
+        ensures { result ≡ dma_check (model self.now) }
+    {
+        if self.state.is_disabled() {
+            return Err(Refusal::ChipDisabled);
+        }
+        if !self.in_dma() {
+            return Err(Refusal::Dma);
+        }
+        Ok(())
+    }
+
     // A byte of data read by DMA.
     pub fn dma_read(&mut self) -> Response
         ensures { outcome (model self.new) result ≡ dma_reads (model self.old) }
     {
-        if self.state.is_disabled() {
-            return self.refuse(Refusal::ChipDisabled);
+        match self.check_dma() {
+            Ok(()) => self.take_data(),
+            Err(refusal) => self.refuse(refusal),
         }
-        if self.in_dma() {
-            return self.take_data();
-        }
-        self.refuse(Refusal::Dma)
     }
 
     // A byte of data written by DMA.
     pub fn dma_write(&mut self, value: u8) -> Response
         ensures { outcome (model self.new) result ≡ dma_writes (model self.old) value }
     {
-        if self.state.is_disabled() {
-            return self.refuse(Refusal::ChipDisabled);
+        match self.check_dma() {
+            Ok(()) => self.put_data(value),
+            Err(refusal) => self.refuse(refusal),
         }
-        if self.in_dma() {
-            return self.put_data(value);
-        }
-        self.refuse(Refusal::Dma)
     }
 
     // The time for a selection runs out.

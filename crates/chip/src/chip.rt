@@ -6,6 +6,7 @@ ghost use Rattle.chip.specs.Places.{places, holds_ack};
 
 use bus::address::StationAddress;
 use bus::phase::Phase;
+use registers::answer::Reaction;
 use registers::state::State;
 
 // The registers that can be written, and those that the chip sets.
@@ -50,6 +51,13 @@ pub struct Written {
 pub(crate) struct Loss {
     pub(crate) count: u8,
     pub(crate) phase: u8,
+}
+
+// What a call that loses all that is held has to tell: what the station hears, and what is lost.
+#[derive(Clone, Copy, Debug, PartialEq, Eq)]
+pub(crate) struct Parting {
+    pub(crate) reaction: Reaction,
+    pub(crate) lost: Loss,
 }
 
 #[derive(Clone, Copy)]

@@ -4,10 +4,10 @@ ghost use Rattle.registers.specs.Causes.{cause_number};
 ghost use Rattle.registers.specs.States.{is_transferring};
 ghost use Rattle.chip.specs.Model.{model};
 ghost use Rattle.chip.specs.Orders.{resets, accepted, started, offered, disconnects, pauses, shut_down, disables, commanded};
-ghost use Rattle.chip.specs.Outcomes.{outcome, dropping_ack, raised, gone_idle, emptied, made_new, written_phase, held_count, held_phase};
+ghost use Rattle.chip.specs.Outcomes.{outcome, gives, dropping_ack, raised, gone_idle, loss, emptied, made_new, written_phase, held_count, held_phase};
 
 use super::answers::is_single;
-use super::chip::{Flags, Loss, Ncr5385e, Received, Registers};
+use super::chip::{Flags, Loss, Ncr5385e, Parting, Received, Registers};
 use bus::address::StationAddress;
 use bus::phase::Phase;
 use registers::answer::{Reaction, Response};
@@ -75,17 +75,35 @@ impl Ncr5385e {
         }
     }
 
+    // Before all that is held goes, and ACK with it.
+    fn parting(&self) -> Parting
+        ensures reaction { result.reaction ≡ dropping_ack self.now.flags.ack }
+        ensures count { result.lost.count ≡ held_count (model self.now).received self.now.written }
+        ensures phase { result.lost.phase ≡ held_phase self.now.latched (model self.now).received self.now.written }
+    {
+        Parting {
+            reaction: self.dropping_ack(),
+            lost: self.held_bytes(),
+        }
+    }
+
+    // And after it.
+    fn part(&self, parting: Parting) -> Response
+        ensures { outcome (model self.now) result ≡ gives (model self.now) parting.reaction (loss parting.lost.count parting.lost.phase (model self.now)) }
+    {
+        Response {
+            reaction: parting.reaction,
+            answer: self.loss(parting.lost),
+        }
+    }
+
     // All that is held is lost, and the chip is as new but for its ID.
     pub fn reset(&mut self) -> Response
         ensures { outcome (model self.new) result ≡ resets (model self.old) }
     {
-        let lost = self.held_bytes();
-        let reaction = self.dropping_ack();
+        let parting = self.parting();
         *self = Ncr5385e::new(self.id);
-        Response {
-            reaction,
-            answer: self.loss(lost),
-        }
+        self.part(parting)
     }
 
     // Held bytes are no more.
@@ -97,6 +115,8 @@ impl Ncr5385e {
         self.written = None;
     }
 
+    // That no received byte is held is true of a chip at the end of a transfer and not of every chip, so it is no invariant,
+    // and each step that ends a transfer asks it.
     pub(crate) fn go_idle(&mut self)
         requires { self.old.received.count ≡ 0 }
         ensures { model self.new ≡ gone_idle (model self.old) }
@@ -120,14 +140,10 @@ impl Ncr5385e {
     fn disconnect(&mut self) -> Response
         ensures { outcome (model self.new) result ≡ disconnects (model self.old) }
     {
-        let lost = self.held_bytes();
-        let reaction = self.dropping_ack();
+        let parting = self.parting();
         self.empty();
         self.go_idle();
-        Response {
-            reaction,
-            answer: self.loss(lost),
-        }
+        self.part(parting)
     }
 
     fn pause(&mut self) -> Response
@@ -156,19 +172,15 @@ impl Ncr5385e {
     fn disable(&mut self) -> Response
         ensures { outcome (model self.new) result ≡ disables (model self.old) }
     {
-        let lost = self.held_bytes();
-        let reaction = self.dropping_ack();
+        let parting = self.parting();
         self.shut_down();
-        Response {
-            reaction,
-            answer: self.loss(lost),
-        }
+        self.part(parting)
     }
 
     // A command is accepted: a written byte is lost, and Paused cleared.
     fn accept(&mut self) -> Loss
         ensures after { model self.new ≡ accepted (model self.old) }
-        ensures chip { self.new.received ≡ self.old.received }
+        ensures kept { self.new.received ≡ self.old.received }
         ensures count { result.count ≡ (if is_some self.old.written then 1 else 0) }
         ensures phase { result.phase ≡ written_phase self.old.written }
     {
