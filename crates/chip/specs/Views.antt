@@ -17,52 +17,52 @@ pub record View : Type 0 where
   pub written : Option Written
 
 abbrev pub to_state : State → View → View
-to_state x v = record { id = v.id; state = x; latched = v.latched; single = v.single; registers = v.registers; flags = v.flags; received = v.received; written = v.written }
+to_state x v = record v { state = x }
 
 abbrev pub to_latched : Phase → View → View
-to_latched x v = record { id = v.id; state = v.state; latched = x; single = v.single; registers = v.registers; flags = v.flags; received = v.received; written = v.written }
+to_latched x v = record v { latched = x }
 
 abbrev pub to_single : ℕ → View → View
-to_single x v = record { id = v.id; state = v.state; latched = v.latched; single = x; registers = v.registers; flags = v.flags; received = v.received; written = v.written }
+to_single x v = record v { single = x }
 
 abbrev pub to_registers : Registers → View → View
-to_registers x v = record { id = v.id; state = v.state; latched = v.latched; single = v.single; registers = x; flags = v.flags; received = v.received; written = v.written }
+to_registers x v = record v { registers = x }
 
 abbrev pub to_flags : Flags → View → View
-to_flags x v = record { id = v.id; state = v.state; latched = v.latched; single = v.single; registers = v.registers; flags = x; received = v.received; written = v.written }
+to_flags x v = record v { flags = x }
 
 abbrev pub to_received : List ℕ → View → View
-to_received x v = record { id = v.id; state = v.state; latched = v.latched; single = v.single; registers = v.registers; flags = v.flags; received = x; written = v.written }
+to_received x v = record v { received = x }
 
 abbrev pub to_written : Option Written → View → View
-to_written x v = record { id = v.id; state = v.state; latched = v.latched; single = v.single; registers = v.registers; flags = v.flags; received = v.received; written = x }
+to_written x v = record v { written = x }
 
 abbrev pub to_command : ℕ → View → View
-to_command x v = to_registers (record { command = x; control = v.registers.control; destination = v.registers.destination; counter = v.registers.counter; interrupt = v.registers.interrupt; source = v.registers.source }) v
+to_command x v = to_registers (record v.registers { command = x }) v
 
 abbrev pub to_control : ℕ → View → View
-to_control x v = to_registers (record { command = v.registers.command; control = x; destination = v.registers.destination; counter = v.registers.counter; interrupt = v.registers.interrupt; source = v.registers.source }) v
+to_control x v = to_registers (record v.registers { control = x }) v
 
 abbrev pub to_destination : ℕ → View → View
-to_destination x v = to_registers (record { command = v.registers.command; control = v.registers.control; destination = x; counter = v.registers.counter; interrupt = v.registers.interrupt; source = v.registers.source }) v
+to_destination x v = to_registers (record v.registers { destination = x }) v
 
 abbrev pub to_counter : ℕ → View → View
-to_counter x v = to_registers (record { command = v.registers.command; control = v.registers.control; destination = v.registers.destination; counter = x; interrupt = v.registers.interrupt; source = v.registers.source }) v
+to_counter x v = to_registers (record v.registers { counter = x }) v
 
 abbrev pub to_interrupt : ℕ → View → View
-to_interrupt x v = to_registers (record { command = v.registers.command; control = v.registers.control; destination = v.registers.destination; counter = v.registers.counter; interrupt = x; source = v.registers.source }) v
+to_interrupt x v = to_registers (record v.registers { interrupt = x }) v
 
 abbrev pub to_source : ℕ → View → View
-to_source x v = to_registers (record { command = v.registers.command; control = v.registers.control; destination = v.registers.destination; counter = v.registers.counter; interrupt = v.registers.interrupt; source = x }) v
+to_source x v = to_registers (record v.registers { source = x }) v
 
 abbrev pub to_paused : Bool → View → View
-to_paused x v = to_flags (record { paused = x; parity_error = v.flags.parity_error; atn = v.flags.atn; ack = v.flags.ack }) v
+to_paused x v = to_flags (record v.flags { paused = x }) v
 
 abbrev pub to_parity_error : Bool → View → View
-to_parity_error x v = to_flags (record { paused = v.flags.paused; parity_error = x; atn = v.flags.atn; ack = v.flags.ack }) v
+to_parity_error x v = to_flags (record v.flags { parity_error = x }) v
 
 abbrev pub to_atn : Bool → View → View
-to_atn x v = to_flags (record { paused = v.flags.paused; parity_error = v.flags.parity_error; atn = x; ack = v.flags.ack }) v
+to_atn x v = to_flags (record v.flags { atn = x }) v
 
 abbrev pub to_ack : Bool → View → View
-to_ack x v = to_flags (record { paused = v.flags.paused; parity_error = v.flags.parity_error; atn = v.flags.atn; ack = x }) v
+to_ack x v = to_flags (record v.flags { ack = x }) v
