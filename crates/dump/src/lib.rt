@@ -7,28 +7,36 @@ use std::fmt;
 #[derive(Clone, Copy)]
 pub struct Hexdump<'a>(pub &'a [u8]);
 
+// A line has two halves.
+const PER_HALF: usize = 8;
+
 const PER_LINE: usize = 16;
 
 // What stands for a byte in text: itself where it can be printed, else a dot.
 fn printable(byte: u8) -> char {
-    if byte >= 0x20 && byte < 0x7f {
-        byte as char
-    } else {
-        '.'
+    match byte {
+        b' '..=b'~' => char::from(byte),
+        _ => '.',
     }
 }
 
-fn line<W: fmt::Write>(f: &mut fmt::Formatter<W>, offset: usize, bytes: &[u8]) -> fmt::Result {
-    write!(f, "{offset:05x} ")?;
-    for i in 0..PER_LINE {
-        if i % 8 == 0 {
-            write!(f, " ")?;
-        }
-        match bytes.get(i) {
-            Some(byte) => write!(f, "{byte:02x} ")?,
-            None => write!(f, "   ")?,
-        }
+// Half a line in hex, filled up with blanks.
+fn half<W: fmt::Write>(f: &mut fmt::Formatter<W>, bytes: &[u8]) -> fmt::Result {
+    write!(f, " ")?;
+    for byte in bytes {
+        write!(f, "{byte:02x} ")?;
     }
+    for _ in bytes.len()..PER_HALF {
+        write!(f, "   ")?;
+    }
+    Ok(())
+}
+
+fn line<W: fmt::Write>(f: &mut fmt::Formatter<W>, offset: usize, bytes: &[u8]) -> fmt::Result {
+    let (left, right) = bytes.split_at(bytes.len().min(PER_HALF));
+    write!(f, "{offset:05x} ")?;
+    half(f, left)?;
+    half(f, right)?;
     write!(f, " |")?;
     for byte in bytes {
         write!(f, "{}", printable(*byte))?;
@@ -38,10 +46,8 @@ fn line<W: fmt::Write>(f: &mut fmt::Formatter<W>, offset: usize, bytes: &[u8]) -
 
 impl<'a> fmt::Display for Hexdump<'a> {
     fn fmt<W: fmt::Write>(&self, f: &mut fmt::Formatter<W>) -> fmt::Result {
-        let mut offset: usize = 0;
-        for bytes in self.0.chunks(PER_LINE) {
+        for (offset, bytes) in (0..).step_by(PER_LINE).zip(self.0.chunks(PER_LINE)) {
             line(f, offset, bytes)?;
-            offset = offset.wrapping_add(PER_LINE);
         }
         Ok(())
     }
