@@ -2,43 +2,35 @@
 #![tactic(auto)]
 
 mod drives;
+mod failure;
 mod scripts;
 mod table;
 
-use anyhow::anyhow;
-use drives::show_exchange;
+use drives::{Exchange, show_exchange};
+use failure::Failure;
 use scripts::show_script;
 use std::env;
 use std::env::Args;
 use std::io::{BufWriter, Write};
 use std::process::ExitCode;
 
-const USAGE: &'static str = "usage: play (SCRIPT | --image IMAGE COMMAND N)...";
+fn exchange_of(words: &mut Args) -> Option<Exchange> {
+    Some(Exchange {
+        image: words.next()?,
+        command: words.next()?,
+        after: words.next()?,
+    })
+}
 
 // One thing to play after the other, in the order of the arguments.
-fn run(rt: &HostRuntime) -> anyhow::Result<()> {
+fn run(rt: &HostRuntime) -> Result<(), Failure> {
     let mut words = env::args(rt)?;
     let _ = words.next();
     let mut out = BufWriter::new(rt.alloc(), rt.stdout())?;
-    for _ in 0..u64::MAX {
-        let Some(word) = words.next() else {
-            break;
-        };
+    while let Some(word) = words.next() {
         if word.as_str() == "--image" {
-            let (Some(image), Some(command), Some(after)) = (
-                words.next(),
-                words.next(),
-                words.next(),
-            ) else {
-                return Err(anyhow!(USAGE));
-            };
-            show_exchange(
-                rt,
-                &mut out,
-                image.as_str(),
-                command.as_str(),
-                after.as_str(),
-            )?;
+            let exchange = exchange_of(&mut words).ok_or(Failure::Usage)?;
+            show_exchange(rt, &mut out, exchange)?;
         } else {
             show_script(rt, &mut out, word.as_str())?;
         }
@@ -51,8 +43,8 @@ fn run(rt: &HostRuntime) -> anyhow::Result<()> {
 fn main(rt: HostRuntime) -> ExitCode {
     match run(&rt) {
         Ok(()) => ExitCode::SUCCESS,
-        Err(fault) => {
-            let _ = eprintln!(rt; "play: {fault}");
+        Err(failure) => {
+            let _ = eprintln!(rt; "play: {failure}");
             ExitCode::FAILURE
         }
     }
