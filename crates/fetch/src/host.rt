@@ -1,38 +1,20 @@
 // The host: a driver that waits for interrupts, and moves bytes between them.
-use super::names::{cause_name, message_name, status_name};
-use super::order::{Order, Way};
-use anyhow::anyhow;
+use super::failure::Failure;
+use super::order::{Request, Way};
+use bus::message::{Message, Status};
 use bus::phase::Phase;
 use bus::station::Station;
-use registers::answer::Answer;
+use registers::answer::{Answer, CONNECTED, INT};
+use registers::cause::Cause;
+use registers::register::Register;
 use scsi_string::ScsiString;
 use std::alloc::Global;
-use std::io;
 use std::io::Write;
+use std::iter::Peekable;
+use std::{array, io};
 
 // The host's own address.
 pub const HOST: u8 = 7;
-
-// The registers that the driver uses.
-const DATA: u8 = 0;
-
-const COMMAND: u8 = 1;
-
-const CONTROL: u8 = 2;
-
-const DESTINATION_ID: u8 = 3;
-
-const AUXILIARY_STATUS: u8 = 4;
-
-const INTERRUPT: u8 = 6;
-
-const SOURCE_ID: u8 = 7;
-
-const COUNTER_HIGH: u8 = 12;
-
-const COUNTER_MIDDLE: u8 = 13;
-
-const COUNTER_LOW: u8 = 14;
 
 // Commands, and what can be added to them.
 const MESSAGE_ACCEPTED: u8 = 0x04;
@@ -48,62 +30,94 @@ const DMA: u8 = 0x80;
 // Parity and Reselect Enable.
 const ENABLES: u8 = 0x06;
 
-// The lines of an answer.
-const INT: u8 = 0x01;
-
-const CONNECTED: u8 = 0x10;
-
 // A selection is given so many ticks, one after each turn.
 const SELECTION_TICKS: u32 = 16;
+
+// What the drive has sent: the record, of which so many bytes are told, and the last status and message.
+#[derive(Drop)]
+struct Received {
+    record: Vec<u8>,
+    told: usize,
+    status: Option<u8>,
+    message: Option<u8>,
+}
 
 #[derive(Drop)]
 pub struct Host<S> {
     string: ScsiString<S>,
-    heap: Global,
     way: Way,
-    address: u8,
-    command: [u8; 6],
-    sent: usize,
-    expected: usize,
-    record: Vec<u8>,
-    traced: usize,
-    status: Option<u8>,
-    message: Option<u8>,
+    request: Request,
+    // the bytes of the command that the chip has not taken yet
+    unsent: Peekable<array::IntoIter<u8, 6>>,
+    received: Received,
     chosen: bool,
-    turns: u32,
+}
+
+fn status_name(status: u8) -> &'static str {
+    Status::try_from(status).map_or("unknown", |status| status.name())
+}
+
+impl Received {
+    fn new(heap: Global) -> Self {
+        Received {
+            record: Vec::new(heap),
+            told: 0,
+            status: None,
+            message: None,
+        }
+    }
+
+    // Puts a byte where its phase says.
+    fn put<W: Write>(&mut self, out: &mut W, phase: u8, byte: u8) -> Result<(), Failure> {
+        match Phase::try_from(phase) {
+            Ok(Phase::DataIn) => self.record.push(byte)?,
+            Ok(Phase::Status) => {
+                self.status = Some(byte);
+                let name = status_name(byte);
+                writeln!(out, "    status {byte:02x}h, {name}")?;
+            }
+            _ => {
+                self.message = Some(byte);
+                let name = Message::try_from(byte).map_or("unknown", |message| message.name());
+                writeln!(out, "    message {byte:02x}h, {name}")?;
+            }
+        }
+        Ok(())
+    }
+
+    // Tells of the data since the last interrupt.
+    fn tell<W: Write>(&mut self, out: &mut W) -> io::Result<()> {
+        let now = self.record.len();
+        if now > self.told {
+            let run = now - self.told;
+            writeln!(out, "    {run} bytes in Data In")?;
+        }
+        self.told = now;
+        Ok(())
+    }
 }
 
 impl<S: Station> Host<S> {
-    pub fn new(heap: Global, string: ScsiString<S>, order: &Order, way: Way) -> Self {
-        let high = (order.block / 65536 % 32) as u8;
-        let middle = (order.block / 256 % 256) as u8;
-        let low = (order.block % 256) as u8;
-        let expected = order.count as usize * 512;
+    pub fn new(heap: Global, string: ScsiString<S>, request: Request, way: Way) -> Self {
         Host {
             string,
-            heap,
             way,
-            address: order.address,
-            command: [0x08, high, middle, low, order.count, 0],
-            sent: 0,
-            expected,
-            record: Vec::new(heap),
-            traced: 0,
-            status: None,
-            message: None,
+            request,
+            unsent: request.command().into_iter().peekable(),
+            received: Received::new(heap),
             chosen: false,
-            turns: expected as u32 * 20 + 100,
         }
     }
 
     pub fn record(&self) -> &[u8] {
-        self.record.as_slice()
+        self.received.record.as_slice()
     }
 
     // From the selection to the drive's letting go after its last message.
-    pub fn fetch<W: Write>(&mut self, out: &mut W) -> anyhow::Result<()> {
+    pub fn fetch<W: Write>(&mut self, out: &mut W) -> Result<(), Failure> {
+        let turns = self.request.turns();
         self.select(out)?;
-        for _ in 0..self.turns {
+        for _ in 0..turns {
             self.feed();
             let answer = self.string.turn();
             self.drain(out)?;
@@ -115,29 +129,35 @@ impl<S: Station> Host<S> {
                 let _ = self.string.tick();
             }
         }
-        let turns = self.turns;
-        Err(anyhow!(format!(in self.heap; "{turns} turns are spent")?))
+        Err(Failure::TurnsSpent(turns))
+    }
+
+    fn read(&mut self, register: Register) -> Answer {
+        self.string.read(u8::from(register))
+    }
+
+    fn write(&mut self, register: Register, value: u8) -> Answer {
+        self.string.write(u8::from(register), value)
     }
 
     fn select<W: Write>(&mut self, out: &mut W) -> io::Result<()> {
-        let address = self.address;
-        self.string.write(CONTROL, ENABLES);
-        self.string.write(DESTINATION_ID, address);
+        let address = self.request.address;
+        let way = self.way;
+        self.write(Register::Control, ENABLES);
+        self.write(Register::DestinationId, address);
         self.set_counter(SELECTION_TICKS);
-        self.string.write(COMMAND, SELECT_WITHOUT_ATN);
-        match self.way {
-            Way::Pio => writeln!(
-                out,
-                "selecting station {address} without ATN, data by reads and writes"
-            ),
-            Way::Dma => writeln!(out, "selecting station {address} without ATN, data by DMA"),
-        }
+        self.write(Register::Command, SELECT_WITHOUT_ATN);
+        writeln!(
+            out,
+            "selecting station {address} without ATN, data by {way}"
+        )
     }
 
     fn set_counter(&mut self, count: u32) {
-        self.string.write(COUNTER_HIGH, (count / 65536 % 256) as u8);
-        self.string.write(COUNTER_MIDDLE, (count / 256 % 256) as u8);
-        self.string.write(COUNTER_LOW, (count % 256) as u8);
+        let [_, high, middle, low] = count.to_be_bytes();
+        self.write(Register::CounterHigh, high);
+        self.write(Register::CounterMiddle, middle);
+        self.write(Register::CounterLow, low);
     }
 
     // Starts to move so many bytes of data.
@@ -147,84 +167,60 @@ impl<S: Station> Host<S> {
             Way::Pio => TRANSFER_INFO,
             Way::Dma => TRANSFER_INFO | DMA,
         };
-        self.string.write(COMMAND, command);
+        self.write(Register::Command, command);
     }
 
     // Gives the chip the next byte of the command, if it takes one.
     fn feed(&mut self) {
-        if self.sent >= 6 {
+        let Some(byte) = self.unsent.peek().copied() else {
             return;
-        }
-        let byte = self.command[self.sent];
+        };
         let answer = match self.way {
-            Way::Pio => self.string.write(DATA, byte),
+            Way::Pio => self.write(Register::Data, byte),
             Way::Dma => self.string.dma_write(byte),
         };
         if answer.refusal == 0 {
-            self.sent += 1;
+            let _ = self.unsent.next();
         }
     }
 
     // A byte that the chip has received; messages and the status are never moved by DMA.
     fn receive(&mut self) -> Answer {
-        if let Way::Dma = self.way {
+        if self.way == Way::Dma {
             let answer = self.string.dma_read();
             if answer.refusal == 0 {
                 return answer;
             }
         }
-        self.string.read(DATA)
+        self.read(Register::Data)
     }
 
-    // Reads the bytes that the chip holds, and puts each where its phase says.
-    fn drain<W: Write>(&mut self, out: &mut W) -> anyhow::Result<()> {
+    // Reads the bytes that the chip holds, two at most.
+    fn drain<W: Write>(&mut self, out: &mut W) -> Result<(), Failure> {
         for _ in 0..2 {
             let answer = self.receive();
             if answer.refusal != 0 {
                 break;
             }
-            let byte = answer.value;
-            match Phase::numbered(answer.phase) {
-                Some(Phase::DataIn) => self.record.push(byte)?,
-                Some(Phase::Status) => {
-                    self.status = Some(byte);
-                    let name = status_name(byte);
-                    writeln!(out, "    status {byte:02x}h, {name}")?;
-                }
-                _ => {
-                    self.message = Some(byte);
-                    let name = message_name(byte);
-                    writeln!(out, "    message {byte:02x}h, {name}")?;
-                }
-            }
+            self.received.put(out, answer.phase, answer.value)?;
         }
-        Ok(())
-    }
-
-    // Tells of the data since the last interrupt.
-    fn trace_data<W: Write>(&mut self, out: &mut W) -> io::Result<()> {
-        let now = self.record.len();
-        if now > self.traced {
-            let run = now - self.traced;
-            writeln!(out, "    {run} bytes in Data In")?;
-        }
-        self.traced = now;
         Ok(())
     }
 
     // Serves one interrupt; true where the drive has let go for good.
-    fn serve<W: Write>(&mut self, out: &mut W) -> anyhow::Result<bool> {
-        let status = self.string.read(AUXILIARY_STATUS).value;
-        let cause = self.string.read(INTERRUPT).value;
-        let name = cause_name(cause);
-        self.trace_data(out)?;
-        write!(out, "INT {cause:02x}h, {name}")?;
+    fn serve<W: Write>(&mut self, out: &mut W) -> Result<bool, Failure> {
+        let status = self.read(Register::AuxiliaryStatus).value;
+        let number = self.read(Register::Interrupt).value;
+        let cause = Cause::try_from(number).ok();
+        let name = cause.map_or("unknown", |cause| cause.name());
+        self.received.tell(out)?;
+        write!(out, "INT {number:02x}h, {name}")?;
         match cause {
-            0x01 => self.complete(out)?,
-            0x02 => self.start(out, Phase::numbered(status / 8 % 8))?,
-            0x04 => return self.let_go(out),
-            0x10 => self.reselected(out)?,
-            _ => return Err(anyhow!("an interrupt out of place")),
+            Some(Cause::FunctionComplete) => self.complete(out)?,
+            Some(Cause::BusService) => self.start(out, Phase::try_from(status / 8 % 8).unwrap())?,
+            Some(Cause::Disconnected) => return self.let_go(out),
+            Some(Cause::Reselected) => self.reselected(out)?,
+            Some(Cause::InvalidCommand) | None => return Err(Failure::Interrupt),
         }
         Ok(false)
     }
@@ -232,21 +228,20 @@ impl<S: Station> Host<S> {
     // The selection is done, or a message was read and ACK is on.
     fn complete<W: Write>(&mut self, out: &mut W) -> io::Result<()> {
         if self.chosen {
-            self.string.write(COMMAND, MESSAGE_ACCEPTED);
+            self.write(Register::Command, MESSAGE_ACCEPTED);
             return writeln!(out, ": message accepted");
         }
         self.chosen = true;
-        let address = self.address;
+        let address = self.request.address;
         writeln!(out, ": station {address} is connected")
     }
 
     // The drive asks for a phase.
-    fn start<W: Write>(&mut self, out: &mut W, phase: Option<Phase>) -> anyhow::Result<()> {
-        let phase = phase.unwrap_or(Phase::DataOut);
+    fn start<W: Write>(&mut self, out: &mut W, phase: Phase) -> Result<(), Failure> {
         writeln!(out, ": {phase}")?;
         match phase {
             Phase::Command => {
-                let [a, b, c, d, e, f] = self.command;
+                let [a, b, c, d, e, f] = self.request.command();
                 writeln!(
                     out,
                     "    sending {a:02x} {b:02x} {c:02x} {d:02x} {e:02x} {f:02x}"
@@ -254,58 +249,61 @@ impl<S: Station> Host<S> {
                 self.transfer(6);
             }
             Phase::DataIn => {
-                let left = self.expected.saturating_sub(self.record.len());
+                let left = self
+                    .request
+                    .bytes()
+                    .saturating_sub(self.received.record.len());
                 if left == 0 {
-                    return Err(anyhow!("the drive sends more than was asked for"));
+                    return Err(Failure::TooMuch);
                 }
-                self.transfer((left % 65536) as u32);
+                self.transfer(left as u32);
             }
             Phase::Status | Phase::MessageIn => {
-                self.string.write(COMMAND, TRANSFER_INFO | SINGLE_BYTE);
+                self.write(Register::Command, TRANSFER_INFO | SINGLE_BYTE);
             }
-            _ => return Err(anyhow!(format!(in self.heap; "{phase} is out of place")?)),
+            _ => return Err(Failure::Phase(phase)),
         }
         Ok(())
     }
 
     // The drive is off the cable: for good after Command Complete, and else for a while.
-    fn let_go<W: Write>(&mut self, out: &mut W) -> anyhow::Result<bool> {
+    fn let_go<W: Write>(&mut self, out: &mut W) -> Result<bool, Failure> {
         if !self.chosen {
-            writeln!(out, "")?;
-            let address = self.address;
-            return Err(anyhow!(format!(in self.heap; "there is no station {address}")?));
+            writeln!(out)?;
+            return Err(Failure::NoStation(self.request.address));
         }
-        if let Some(0) = self.message {
+        let done = self.received.message == Some(u8::from(Message::CommandComplete));
+        if done {
             writeln!(out, ": the drive is done")?;
-            return Ok(true);
+        } else {
+            writeln!(out, ": the drive lets go in mid-record")?;
         }
-        writeln!(out, ": the drive lets go in mid-record")?;
-        Ok(false)
+        Ok(done)
     }
 
-    fn reselected<W: Write>(&mut self, out: &mut W) -> anyhow::Result<()> {
-        let source = self.string.read(SOURCE_ID).value % 8;
+    fn reselected<W: Write>(&mut self, out: &mut W) -> Result<(), Failure> {
+        let source = self.read(Register::SourceId).value % 8;
         writeln!(out, " by station {source}")?;
-        if source != self.address {
-            return Err(anyhow!("another station reselects"));
+        if source != self.request.address {
+            return Err(Failure::AnotherStation);
         }
         Ok(())
     }
 
     // Whether the drive said that all is well, and sent as much as was asked for.
-    fn judge(&self) -> anyhow::Result<()> {
-        let got = self.record.len();
-        let expected = self.expected;
-        match self.status {
-            Some(0) if got == expected => Ok(()),
-            Some(0) => Err(anyhow!(format!(in self.heap;
-                "the drive sent {got} bytes of {expected}"
-            )?)),
-            Some(status) => {
-                let name = status_name(status);
-                Err(anyhow!(format!(in self.heap; "the drive answers {status:02x}h, {name}")?))
-            }
-            None => Err(anyhow!("the drive sent no status")),
+    fn judge(&self) -> Result<(), Failure> {
+        let got = self.received.record.len();
+        let expected = self.request.bytes();
+        let status = self.received.status.ok_or(Failure::NoStatus)?;
+        if status != u8::from(Status::Good) {
+            return Err(Failure::Refused {
+                status,
+                name: status_name(status),
+            });
         }
+        if got != expected {
+            return Err(Failure::Length { got, expected });
+        }
+        Ok(())
     }
 }

@@ -1,17 +1,19 @@
 // Fetches blocks off a drive through the chip, as a host of 1986 would: fetch [--pio|--dma].. IMAGE ADDRESS BLOCK COUNT [BREAK-AFTER]
 #![tactic(auto)]
 
+mod failure;
 mod host;
-mod names;
 mod order;
 
 use breaker::Breaker;
 use bus::address::StationAddress;
 use drive::drive::Drive;
 use dump::Hexdump;
+use failure::Failure;
 use host::{HOST, Host};
 use order::{Order, Way, order_of};
 use scsi_string::ScsiString;
+use std::alloc::Global;
 use std::io::{BufWriter, Write};
 use std::process::ExitCode;
 use std::{env, fs};
@@ -20,16 +22,16 @@ use std::{env, fs};
 const DRIVE: u8 = 2;
 
 fn fetch<W: Write>(
-    rt: &HostRuntime,
+    heap: Global,
     out: &mut W,
     image: &[u8],
     order: &Order,
     way: Way,
-) -> anyhow::Result<()> {
+) -> Result<(), Failure> {
     let drive = Drive::new(image, StationAddress::new(DRIVE));
     let station = Breaker::new(drive, order.break_after, StationAddress::new(HOST));
     let string = ScsiString::new(StationAddress::new(HOST), station);
-    let mut host = Host::new(rt.alloc(), string, order, way);
+    let mut host = Host::new(heap, string, order.request, way);
     host.fetch(out)?;
     let record = host.record();
     let sum = record.len();
@@ -38,15 +40,13 @@ fn fetch<W: Write>(
     Ok(())
 }
 
-fn run(rt: &HostRuntime) -> anyhow::Result<()> {
-    let order = order_of(rt.alloc(), env::args(rt)?)?;
+fn run(rt: &HostRuntime) -> Result<(), Failure> {
+    let heap = rt.alloc();
+    let order = order_of(heap, env::args(rt)?)?;
     let image = fs::read(rt, order.image.as_str())?;
-    let mut out = BufWriter::new(rt.alloc(), rt.stdout())?;
-    if order.pio {
-        fetch(rt, &mut out, image.as_slice(), &order, Way::Pio)?;
-    }
-    if order.dma {
-        fetch(rt, &mut out, image.as_slice(), &order, Way::Dma)?;
+    let mut out = BufWriter::new(heap, rt.stdout())?;
+    for way in order.ways.iter() {
+        fetch(heap, &mut out, image.as_slice(), &order, *way)?;
     }
     out.flush()?;
     Ok(())
@@ -56,8 +56,8 @@ fn run(rt: &HostRuntime) -> anyhow::Result<()> {
 fn main(rt: HostRuntime) -> ExitCode {
     match run(&rt) {
         Ok(()) => ExitCode::SUCCESS,
-        Err(fault) => {
-            let _ = eprintln!(rt; "fetch: {fault}");
+        Err(failure) => {
+            let _ = eprintln!(rt; "fetch: {failure}");
             ExitCode::FAILURE
         }
     }

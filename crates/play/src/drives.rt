@@ -1,4 +1,7 @@
 // A drive over a disc image, under a breaker: one whole exchange, from choosing to Off.
+ghost use Rattle.std.specs.Prelude.{◌≡◌, ◌≤◌, ◌∷◌, IfSome};
+ghost use Rattle.std.specs.Vec.Iter.{into_iter_items, into_iter_len};
+
 use super::failure::Failure;
 use breaker::Breaker;
 use bus::address::StationAddress;
@@ -12,6 +15,7 @@ use drive::image::Image;
 use dump::Hexdump;
 use hex::FromHex;
 use std::alloc::Global;
+use std::env::Args;
 use std::io::Write;
 use std::rt::Files;
 use std::{fs, io};
@@ -32,11 +36,29 @@ pub struct Exchange {
     pub after: String,
 }
 
+impl Exchange {
+    // The next three words.
+    pub fn of_words(words: &mut Args) -> Option<Self>
+        ensures some { IfSome result (λ e. into_iter_items words.old ≡ e.image ∷ e.command ∷ e.after ∷ into_iter_items words.new) }
+        ensures fewer { into_iter_len words.new ≤ into_iter_len words.old }
+    {
+        Some(Exchange {
+            image: words.next()?,
+            command: words.next()?,
+            after: words.next()?,
+        })
+    }
+}
+
 // What the byte of a wish says, where it has a name.
 fn meaning_of(wish: Wish) -> Option<&'static str> {
     match wish {
-        Wish::Req(Phase::Status, byte, _) => Status::try_from(byte).ok().map(|status| status.name()),
-        Wish::Req(Phase::MessageIn, byte, _) => Message::try_from(byte).ok().map(|message| message.name()),
+        Wish::Req(Phase::Status, byte, _) => Status::try_from(byte)
+            .ok()
+            .map(|status| status.name()),
+        Wish::Req(Phase::MessageIn, byte, _) => Message::try_from(byte)
+            .ok()
+            .map(|message| message.name()),
         _ => None,
     }
 }

@@ -10,17 +10,8 @@ use drives::{Exchange, show_exchange};
 use failure::Failure;
 use scripts::show_script;
 use std::env;
-use std::env::Args;
 use std::io::{BufWriter, Write};
 use std::process::ExitCode;
-
-fn exchange_of(words: &mut Args) -> Option<Exchange> {
-    Some(Exchange {
-        image: words.next()?,
-        command: words.next()?,
-        after: words.next()?,
-    })
-}
 
 // One thing to play after the other, in the order of the arguments.
 fn run(rt: &HostRuntime) -> Result<(), Failure> {
@@ -29,7 +20,7 @@ fn run(rt: &HostRuntime) -> Result<(), Failure> {
     let mut out = BufWriter::new(rt.alloc(), rt.stdout())?;
     while let Some(word) = words.next() {
         if word.as_str() == "--image" {
-            let exchange = exchange_of(&mut words).ok_or(Failure::Usage)?;
+            let exchange = Exchange::of_words(&mut words).ok_or(Failure::Usage)?;
             show_exchange(rt, &mut out, exchange)?;
         } else {
             show_script(rt, &mut out, word.as_str())?;
