@@ -1,5 +1,5 @@
 // What is asked for on the command line.
-ghost use Rattle.std.specs.Prelude.{◌≡◌, ◌+◌, ◌*◌, ◌/◌, ◌%◌, ◌<◌, ◌≤◌, [], ◌∷◌, IfOk};
+ghost use Rattle.std.specs.Prelude.{◌≡◌, ◌+◌, ◌*◌, ◌/◌, ◌%◌, ◌^◌, ◌<◌, ◌≤◌, [], ◌∷◌, IfOk};
 
 use super::failure::Failure;
 use std::alloc::Global;
@@ -52,7 +52,8 @@ impl Request {
 
     // How many bytes the blocks have.
     pub fn bytes(self) -> usize
-        ensures { result ≡ self.count * 512 }
+        ensures value { result ≡ self.count * 512 }
+        ensures bound { result < 2 ^ 17 }
     {
         usize::from(self.count) * 512
     }

@@ -6,6 +6,7 @@ ghost use Rattle.std.specs.List.{before_first};
 ghost use Rattle.std.specs.Str.{trim};
 ghost use Rattle.std.specs.Str.Iter.{split_whitespace_rest, split_whitespace_steps};
 ghost use Rattle.fields.specs.Numbers.{DigitsWrite, Writes, WritesNext, WritesNoneUpTo};
+ghost use Rattle.fields.specs.Texts.{expected_text, unexpected_text};
 ghost use Rattle.fields.specs.declared.Expected.TheVariants.{Words, Number};
 
 use std::error::Error;
@@ -42,6 +43,8 @@ pub struct Unexpected<'a> {
 }
 
 impl fmt::Display for Expected {
+    ghost output = { λ e. Some (expected_text e) };
+
     fn fmt<W: fmt::Write>(&self, f: &mut fmt::Formatter<W>) -> fmt::Result {
         match *self {
             Expected::Words(words) => f.write_str(words),
@@ -51,11 +54,13 @@ impl fmt::Display for Expected {
 }
 
 impl<'a> fmt::Display for Unexpected<'a> {
+    ghost output = { λ u. Some (unexpected_text u) };
+
     fn fmt<W: fmt::Write>(&self, f: &mut fmt::Formatter<W>) -> fmt::Result {
-        write!(f, "expected {}", self.expected)?;
+        let expected = self.expected;
         match self.found {
-            Some(word) => write!(f, ", and found '{word}'"),
-            None => write!(f, ", and the line ends"),
+            Some(word) => write!(f, "expected {expected}, and found '{word}'"),
+            None => write!(f, "expected {expected}, and the line ends"),
         }
     }
 }

@@ -1,27 +1,18 @@
 // Plays a session on a string of its own, and prints every answer.
-use super::session::{Kind, Session};
-use anyhow::anyhow;
+use super::failure::Fault;
+use super::line::Break;
+use super::session::{Kind, Placed};
 use breaker::Breaker;
 use bus::address::StationAddress;
 use bus::station::Tally;
 use drive::drive::Drive;
 use registers::answer::Answer;
-use registers::call::Call;
+use registers::call::CallRow;
 use script::script::Script;
 use scsi_string::{MOST_CALLS, ScsiString};
 use std::alloc::Global;
 use std::io;
 use std::io::Write;
-
-const NO_ANSWER: Answer = Answer {
-    refusal: 0,
-    value: 0,
-    lines: 0,
-    cable: 0,
-    byte: 0,
-    phase: 0,
-    lost: 0,
-};
 
 fn show<W: Write>(out: &mut W, answer: &Answer) -> io::Result<()> {
     let Answer {
@@ -45,16 +36,16 @@ fn answer<S: Tally + Drop, W: Write>(
     out: &mut W,
     chip: u8,
     station: S,
-    calls: &[Call],
-) -> anyhow::Result<()> {
+    calls: &[CallRow],
+) -> Result<(), Fault> {
     let mut string = ScsiString::new(StationAddress::new(chip), station);
-    let mut answers = vec![in heap; NO_ANSWER; calls.len().min(MOST_CALLS)]?;
+    let mut answers = vec![in heap; Answer::default(); calls.len().min(MOST_CALLS)]?;
     let mut lost: u64 = 0;
     for part in calls.chunks(MOST_CALLS) {
-        match string.run(part, answers.as_mut_slice()) {
-            Ok(ran) => lost = lost.wrapping_add(u64::from(ran.lost)),
-            Err(_) => return Err(anyhow!("a run of the calls was refused")),
-        }
+        let ran = string
+            .run(part, answers.as_mut_slice())
+            .map_err(|_| Fault::RunRefused)?;
+        lost = lost.wrapping_add(u64::from(ran.lost));
         for answer in answers.iter().take(part.len()) {
             show(out, answer)?;
         }
@@ -73,29 +64,30 @@ fn answer<S: Tally + Drop, W: Write>(
 fn answer_under<S: Tally + Drop, W: Write>(
     heap: Global,
     out: &mut W,
-    session: &Session,
+    chip: u8,
+    placed: &Placed,
     station: S,
-) -> anyhow::Result<()> {
-    let calls = session.calls.as_slice();
-    match session.breaker {
-        None => answer(heap, out, session.chip, station, calls),
-        Some(b) => {
-            let over = Breaker::new(station, b.after, StationAddress::new(b.host));
-            answer(heap, out, session.chip, over, calls)
+) -> Result<(), Fault> {
+    let calls = placed.calls.as_slice();
+    match placed.breaker {
+        None => answer(heap, out, chip, station, calls),
+        Some(Break { after, host }) => {
+            let over = Breaker::new(station, after, StationAddress::new(host));
+            answer(heap, out, chip, over, calls)
         }
     }
 }
 
-pub fn play<W: Write>(heap: Global, out: &mut W, session: &Session) -> anyhow::Result<()> {
-    let address = StationAddress::new(session.address);
-    match session.kind {
-        Kind::Script => {
-            let script = Script::new(session.rows.as_slice(), address);
-            answer_under(heap, out, session, script)
+pub fn play<W: Write>(heap: Global, out: &mut W, chip: u8, placed: &Placed) -> Result<(), Fault> {
+    let address = StationAddress::new(placed.address);
+    match &placed.kind {
+        Kind::Script(rows) => {
+            let script = Script::new(rows.as_slice(), address);
+            answer_under(heap, out, chip, placed, script)
         }
-        Kind::Drive => {
-            let drive = Drive::new(session.image.as_slice(), address);
-            answer_under(heap, out, session, drive)
+        Kind::Drive(image) => {
+            let drive = Drive::new(image.as_slice(), address);
+            answer_under(heap, out, chip, placed, drive)
         }
     }
 }

@@ -2,65 +2,72 @@
 #![tactic(auto)]
 
 mod answers;
+mod failure;
 mod line;
 mod session;
 
 use answers::play;
-use anyhow::anyhow;
+use failure::{Failure, Fault};
 use line::{Line, line_of};
 use session::Session;
+use std::alloc::Global;
 use std::io::{BufRead, BufReader, BufWriter, Write};
+use std::iter;
 use std::process::ExitCode;
+use std::rt::Files;
 
-// Plays a session that is whole.
-fn finish<W: Write>(rt: &HostRuntime, out: &mut W, session: &Session) -> anyhow::Result<()> {
-    if !session.is_begun() {
-        return Ok(());
+// The chip's address where none is given.
+const CHIP: u8 = 7;
+
+// Plays a session that is whole, if there is one.
+fn finish<W: Write>(heap: Global, out: &mut W, session: &Option<Session>) -> Result<(), Fault> {
+    match session {
+        None => Ok(()),
+        Some(session) => {
+            let placed = session.placed.as_ref().ok_or(Fault::NoStation)?;
+            play(heap, out, session.chip.unwrap_or(CHIP), placed)
+        }
     }
-    if !session.has_station() {
-        return Err(anyhow!("expected script or drive, and the session ends"));
-    }
-    play(rt.alloc(), out, session)
 }
 
 // One line more; the word `session` ends a session and begins another.
 fn take<W: Write>(
-    rt: &HostRuntime,
+    rt: &(impl Files + AllocGlobal),
     out: &mut W,
-    session: &mut Session,
+    session: &mut Option<Session>,
     text: &str,
-) -> anyhow::Result<()> {
+) -> Result<(), Fault> {
     match line_of(text) {
-        Ok(Line::Session) => {
-            finish(rt, out, session)?;
-            *session = Session::new(rt.alloc());
-            session.begin();
+        Ok(None) => Ok(()),
+        Ok(Some(Line::Session)) => {
+            finish(rt.alloc(), out, session)?;
+            *session = Some(Session::default());
             Ok(())
         }
-        Ok(line) => session.take(rt, line),
-        Err(fault) => Err(anyhow!(format!(in rt.alloc(); "{fault}")?)),
+        Ok(Some(line)) => session
+            .get_or_insert_with(|| Session::default())
+            .take(rt, line),
+        Err(unexpected) => Err(Fault::Unexpected(format!(in rt.alloc(); "{unexpected}")?)),
     }
 }
 
-fn sessions<W: Write>(rt: &HostRuntime, out: &mut W) -> anyhow::Result<()> {
+// The end of the input counts as a line: there the last session ends.
+fn sessions<W: Write>(rt: &HostRuntime, out: &mut W) -> Result<(), Failure> {
     let heap = rt.alloc();
-    let mut session = Session::new(heap);
-    let mut number: u64 = 1;
-    for line in BufReader::new(heap, rt.stdin())?.lines(heap) {
-        let text = line?;
-        if let Err(fault) = take(rt, out, &mut session, text.as_str()) {
-            return Err(anyhow!(format!(in heap; "line {number}: {fault}")?));
-        }
-        number = number.wrapping_add(1);
+    let mut session = None;
+    let lines = BufReader::new(heap, rt.stdin())?.lines(heap);
+    for (number, line) in (1u64..).zip(lines.map(|line| Some(line)).chain(iter::once(None))) {
+        let taken = match line {
+            Some(text) => take(rt, out, &mut session, text?.as_str()),
+            None => finish(heap, out, &session),
+        };
+        taken.map_err(|fault| Failure::Line { number, fault })?;
     }
-    match finish(rt, out, &session) {
-        Ok(()) => Ok(()),
-        Err(fault) => Err(anyhow!(format!(in heap; "line {number}: {fault}")?)),
-    }
+    Ok(())
 }
 
 // What was answered before an error is printed all the same.
-fn run(rt: &HostRuntime) -> anyhow::Result<()> {
+fn run(rt: &HostRuntime) -> Result<(), Failure> {
     let mut out = BufWriter::new(rt.alloc(), rt.stdout())?;
     let result = sessions(rt, &mut out);
     out.flush()?;
@@ -71,8 +78,8 @@ fn run(rt: &HostRuntime) -> anyhow::Result<()> {
 fn main(rt: HostRuntime) -> ExitCode {
     match run(&rt) {
         Ok(()) => ExitCode::SUCCESS,
-        Err(fault) => {
-            let _ = eprintln!(rt; "replay: {fault}");
+        Err(failure) => {
+            let _ = eprintln!(rt; "replay: {failure}");
             ExitCode::FAILURE
         }
     }
