@@ -12,6 +12,7 @@ use dump::Hexdump;
 use failure::Failure;
 use host::{HOST, Host};
 use order::{Order, Way, order_of};
+use programs::ending::end;
 use scsi_string::ScsiString;
 use std::alloc::Global;
 use std::io::{BufWriter, Write};
@@ -52,13 +53,6 @@ fn run(rt: &HostRuntime) -> Result<(), Failure> {
     Ok(())
 }
 
-// An error is told on standard error, and the status is 1.
 fn main(rt: HostRuntime) -> ExitCode {
-    match run(&rt) {
-        Ok(()) => ExitCode::SUCCESS,
-        Err(failure) => {
-            let _ = eprintln!(rt; "fetch: {failure}");
-            ExitCode::FAILURE
-        }
-    }
+    end(&rt, "fetch", run(&rt))
 }

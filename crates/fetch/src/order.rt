@@ -90,7 +90,8 @@ fn ways_of(heap: Global, words: &mut Peekable<Args>) -> Result<BTreeSet<Way>, Fa
     Ok(ways)
 }
 
-// A number of a command line, up to the most that it may be.
+// A number of a command line, up to the most that it may be. It is not read as programs::fields does: a plus may stand before
+// it, and where there is no word the usage is told.
 fn number(word: Option<String>, name: &'static str, most: u32) -> Result<u32, Failure>
     ensures { IfOk result (λ n. n ≤ most) }
 {

@@ -8,6 +8,7 @@ mod table;
 
 use drives::{Exchange, show_exchange};
 use failure::Failure;
+use programs::ending::end;
 use scripts::show_script;
 use std::env;
 use std::io::{BufWriter, Write};
@@ -30,13 +31,6 @@ fn run(rt: &HostRuntime) -> Result<(), Failure> {
     Ok(())
 }
 
-// An error is told on standard error, and the status is 1.
 fn main(rt: HostRuntime) -> ExitCode {
-    match run(&rt) {
-        Ok(()) => ExitCode::SUCCESS,
-        Err(failure) => {
-            let _ = eprintln!(rt; "play: {failure}");
-            ExitCode::FAILURE
-        }
-    }
+    end(&rt, "play", run(&rt))
 }

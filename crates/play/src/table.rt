@@ -1,6 +1,6 @@
 // The text of a table: a row to a line, `kind phase byte parity next`, in decimal or 0x hex. `#` begins a comment.
 use super::failure::Failure;
-use fields::{Fields, Notation, Style, Unexpected};
+use programs::fields::{Fields, Notation, Style, Unexpected};
 use script::row::Row;
 use std::alloc::Global;
 

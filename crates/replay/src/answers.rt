@@ -1,4 +1,4 @@
-// Plays a session on a string of its own, and prints every answer.
+// Plays a session on a string of its own.
 use super::failure::Fault;
 use super::line::Break;
 use super::session::{Kind, Placed};
@@ -11,10 +11,18 @@ use registers::call::CallRow;
 use script::script::Script;
 use scsi_string::{MOST_CALLS, ScsiString};
 use std::alloc::Global;
-use std::io;
-use std::io::Write;
+use std::fmt;
 
-fn show<W: Write>(out: &mut W, answer: &Answer) -> io::Result<()> {
+// An answer for each call, how many bytes they lost, and how many are held and wait at the end.
+#[derive(Drop)]
+pub struct Played {
+    answers: Vec<Answer>,
+    lost: u64,
+    held: u8,
+    waiting: usize,
+}
+
+fn show<W: fmt::Write>(f: &mut fmt::Formatter<W>, answer: &Answer) -> fmt::Result {
     let Answer {
         refusal,
         value,
@@ -24,70 +32,70 @@ fn show<W: Write>(out: &mut W, answer: &Answer) -> io::Result<()> {
         phase,
         lost,
     } = *answer;
-    writeln!(
-        out,
-        "{refusal} {value} {lines} {cable} {byte} {phase} {lost}"
-    )
+    writeln!(f, "{refusal} {value} {lines} {cable} {byte} {phase} {lost}")
 }
 
-// Runs the calls, as many at a time as a run takes, and prints their answers and the sums.
-fn answer<S: Tally + Drop, W: Write>(
-    heap: Global,
-    out: &mut W,
-    chip: u8,
-    station: S,
-    calls: &[CallRow],
-) -> Result<(), Fault> {
-    let mut string = ScsiString::new(StationAddress::new(chip), station);
-    let mut answers = vec![in heap; Answer::default(); calls.len().min(MOST_CALLS)]?;
-    let mut lost: u64 = 0;
-    for part in calls.chunks(MOST_CALLS) {
-        let ran = string
-            .run(part, answers.as_mut_slice())
-            .map_err(|_| Fault::RunRefused)?;
-        lost = lost.wrapping_add(u64::from(ran.lost));
-        for answer in answers.iter().take(part.len()) {
-            show(out, answer)?;
+impl fmt::Display for Played {
+    fn fmt<W: fmt::Write>(&self, f: &mut fmt::Formatter<W>) -> fmt::Result {
+        for answer in self.answers.iter() {
+            show(f, answer)?;
         }
+        let calls = self.answers.len();
+        let lost = self.lost;
+        let held = self.held;
+        let waiting = self.waiting;
+        writeln!(f, "calls {calls} lost {lost} held {held} waiting {waiting}")
     }
-    let count = calls.len();
-    let held = string.held();
-    let waiting = string.waiting();
-    writeln!(
-        out,
-        "calls {count} lost {lost} held {held} waiting {waiting}"
-    )?;
-    Ok(())
+}
+
+// Runs the calls, as many at a time as a run takes.
+fn answer<S: Tally + Drop>(
+    heap: Global,
+    mut string: ScsiString<S>,
+    calls: &[CallRow],
+) -> Result<Played, Fault> {
+    let mut answers = vec![in heap; Answer::default(); calls.len()]?;
+    let mut lost: u64 = 0;
+    let rooms = answers.as_mut_slice().chunks_mut(MOST_CALLS);
+    for (part, room) in calls.chunks(MOST_CALLS).zip(rooms) {
+        let ran = string.run(part, room).map_err(|_| Fault::RunRefused)?;
+        lost = lost.wrapping_add(u64::from(ran.lost));
+    }
+    Ok(Played {
+        answers,
+        lost,
+        held: string.held(),
+        waiting: string.waiting(),
+    })
 }
 
 // Under the breaker, where the session has one.
-fn answer_under<S: Tally + Drop, W: Write>(
+fn answer_under<S: Tally + Drop>(
     heap: Global,
-    out: &mut W,
-    chip: u8,
     placed: &Placed,
     station: S,
-) -> Result<(), Fault> {
+) -> Result<Played, Fault> {
+    let chip = StationAddress::new(placed.chip);
     let calls = placed.calls.as_slice();
     match placed.breaker {
-        None => answer(heap, out, chip, station, calls),
+        None => answer(heap, ScsiString::new(chip, station), calls),
         Some(Break { after, host }) => {
             let over = Breaker::new(station, after, StationAddress::new(host));
-            answer(heap, out, chip, over, calls)
+            answer(heap, ScsiString::new(chip, over), calls)
         }
     }
 }
 
-pub fn play<W: Write>(heap: Global, out: &mut W, chip: u8, placed: &Placed) -> Result<(), Fault> {
+pub fn play(heap: Global, placed: &Placed) -> Result<Played, Fault> {
     let address = StationAddress::new(placed.address);
     match &placed.kind {
         Kind::Script(rows) => {
             let script = Script::new(rows.as_slice(), address);
-            answer_under(heap, out, chip, placed, script)
+            answer_under(heap, placed, script)
         }
         Kind::Drive(image) => {
             let drive = Drive::new(image.as_slice(), address);
-            answer_under(heap, out, chip, placed, drive)
+            answer_under(heap, placed, drive)
         }
     }
 }

@@ -1,5 +1,5 @@
 // One line of a session: a word that says what it is, and its numbers.
-use fields::{Expected, Fields, Notation, Style, Unexpected};
+use programs::fields::{Expected, Fields, Notation, Style, Unexpected};
 use registers::call::CallRow;
 use script::row::Row;
 

@@ -9,6 +9,7 @@ mod session;
 use answers::play;
 use failure::{Failure, Fault};
 use line::{Line, line_of};
+use programs::ending::end;
 use session::Session;
 use std::alloc::Global;
 use std::io::{BufRead, BufReader, BufWriter, Write};
@@ -16,16 +17,14 @@ use std::iter;
 use std::process::ExitCode;
 use std::rt::Files;
 
-// The chip's address where none is given.
-const CHIP: u8 = 7;
-
 // Plays a session that is whole, if there is one.
 fn finish<W: Write>(heap: Global, out: &mut W, session: &Option<Session>) -> Result<(), Fault> {
     match session {
         None => Ok(()),
         Some(session) => {
             let placed = session.placed.as_ref().ok_or(Fault::NoStation)?;
-            play(heap, out, session.chip.unwrap_or(CHIP), placed)
+            write!(out, "{}", play(heap, placed)?)?;
+            Ok(())
         }
     }
 }
@@ -74,13 +73,6 @@ fn run(rt: &HostRuntime) -> Result<(), Failure> {
     result
 }
 
-// An error is told on standard error, and the status is 1.
 fn main(rt: HostRuntime) -> ExitCode {
-    match run(&rt) {
-        Ok(()) => ExitCode::SUCCESS,
-        Err(failure) => {
-            let _ = eprintln!(rt; "replay: {failure}");
-            ExitCode::FAILURE
-        }
-    }
+    end(&rt, "replay", run(&rt))
 }

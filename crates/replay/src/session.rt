@@ -8,6 +8,9 @@ use std::alloc::{AllocError, Global};
 use std::fs;
 use std::rt::Files;
 
+// The chip's address where none is given.
+const CHIP: u8 = 7;
+
 // What a station is made of: the table of a script, or the image of a drive.
 #[derive(Drop)]
 pub enum Kind {
@@ -15,9 +18,10 @@ pub enum Kind {
     Drive(Vec<u8>),
 }
 
-// The station of a session, and what comes after it.
+// The station of a session, with the chip's address and what comes after it.
 #[derive(Drop)]
 pub struct Placed {
+    pub chip: u8,
     pub address: u8,
     pub kind: Kind,
     pub breaker: Option<Break>,
@@ -27,7 +31,7 @@ pub struct Placed {
 // Its lines stand in this order: the chip, the station, its rows, a breaker, the calls.
 #[derive(Default, Drop)]
 pub struct Session {
-    pub chip: Option<u8>,
+    chip: Option<u8>,
     pub placed: Option<Placed>,
 }
 
@@ -63,8 +67,9 @@ fn draw_image(heap: Global, blocks: u32) -> Result<Vec<u8>, AllocError> {
 }
 
 impl Placed {
-    fn new(heap: Global, address: u8, kind: Kind) -> Self {
+    fn new(heap: Global, chip: u8, address: u8, kind: Kind) -> Self {
         Placed {
+            chip,
             address,
             kind,
             breaker: None,
@@ -114,7 +119,8 @@ impl Session {
             _ if self.chip.is_some() => return Err(Fault::Misplaced("script or drive")),
             _ => return Err(Fault::Misplaced("chip, script or drive")),
         };
-        self.placed = Some(Placed::new(heap, address, kind));
+        let chip = self.chip.unwrap_or(CHIP);
+        self.placed = Some(Placed::new(heap, chip, address, kind));
         Ok(())
     }
 }

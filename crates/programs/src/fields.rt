@@ -1,13 +1,11 @@
 // The words of a line, read one after the other, and numbers up to a bound. `#` begins a comment.
-#![tactic(auto)]
-
 ghost use Rattle.std.specs.Prelude.{◌≡◌, ◌==◌, ◌≤◌, ◌↔◌, [], None, Some, IsSome, IsNone, IfSome, IfOk, IfErr, OnOk};
 ghost use Rattle.std.specs.List.{before_first};
 ghost use Rattle.std.specs.Str.{trim};
 ghost use Rattle.std.specs.Str.Iter.{split_whitespace_rest, split_whitespace_steps};
-ghost use Rattle.fields.specs.Numbers.{DigitsWrite, Writes, WritesNext, WritesNoneUpTo};
-ghost use Rattle.fields.specs.Texts.{expected_text, unexpected_text};
-ghost use Rattle.fields.specs.declared.Expected.TheVariants.{Words, Number};
+ghost use Rattle.programs.specs.Numbers.{DigitsWrite, Writes, WritesNext, WritesNoneUpTo};
+ghost use Rattle.programs.specs.Texts.{expected_text, unexpected_text};
+ghost use Rattle.programs.specs.declared.fields.Expected.TheVariants.{Words, Number};
 
 use std::error::Error;
 use std::fmt;
@@ -28,7 +26,7 @@ pub struct Style {
     pub range: &'static str,
 }
 
-// What is expected in a line: what some words say, or a number with a name and a bound.
+// What is expected in a line: what some words say; or a number, by its name, the words before its bound, and the bound.
 #[derive(Clone, Copy, Debug)]
 pub enum Expected {
     Words(&'static str),

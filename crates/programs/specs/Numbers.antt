@@ -6,8 +6,8 @@ use Rattle.std.specs.Str.Iter.{split_whitespace_steps}
 use Rattle.std.specs.List.{starts_with}
 use Rattle.std.specs.Option.{SomeIff}
 use Rattle.std.specs.Str.Parse.{IsNumeral, digits_value}
-use Rattle.fields.specs.declared.Notation.{Notation}
-use Rattle.fields.specs.declared.Notation.TheVariants.{Decimal, DecimalOrHex}
+use Rattle.programs.specs.declared.fields.Notation.{Notation}
+use Rattle.programs.specs.declared.fields.Notation.TheVariants.{Decimal, DecimalOrHex}
 
 abbrev pub is_hex : Notation → List ℕ → Bool
 is_hex Decimal word = false

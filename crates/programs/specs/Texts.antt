@@ -2,9 +2,9 @@
 use Rattle.std.specs.Prelude.{ℕ, List, ◌++◌, codes, Option, None, Some}
 use Rattle.std.specs.Borrow.{Bor}
 use Rattle.std.specs.Fmt.{decimal}
-use Rattle.fields.specs.declared.Expected.{Expected}
-use Rattle.fields.specs.declared.Expected.TheVariants.{Words, Number}
-use Rattle.fields.specs.declared.Unexpected.{Unexpected}
+use Rattle.programs.specs.declared.fields.Expected.{Expected}
+use Rattle.programs.specs.declared.fields.Expected.TheVariants.{Words, Number}
+use Rattle.programs.specs.declared.fields.Unexpected.{Unexpected}
 
 abbrev pub expected_text : Expected → List ℕ
 expected_text (Words words) = words.now
