@@ -74,27 +74,20 @@ module _ {S : Type 0} (m : Meaning S) where
   abbrev pub passed_on : Breaker S → ℕ → Breaker S
   passed_on s b = record {
     below = m.after_told s.below b;
-    progress = record {
-      after = s.progress.after;
-      host = s.progress.host;
-      passed = passed_after Through (shows_data (m.wants s.below)) s.progress.after s.progress.passed;
-      stage = s.progress.stage;
-    };
+    progress = record s.progress { passed = passed_after Through (shows_data (m.wants s.below)) s.progress.after s.progress.passed };
   }
 
   abbrev pub breaker_told : Breaker S → ℕ → Breaker S
   breaker_told s b = record {
     below = cond (is_through (standing s)) (m.after_told s.below b) s.below;
-    progress = record {
-      after = s.progress.after;
-      host = s.progress.host;
+    progress = record s.progress {
       passed = passed_after (standing s) (shows_data (m.wants s.below)) s.progress.after s.progress.passed;
       stage = stage_after (standing s) s.progress.stage;
     };
   }
 
   abbrev pub breaker_chosen : Breaker S → ℕ → Bool → Breaker S
-  breaker_chosen s a atn = record { below = cond (is_through (standing s)) (m.after_chosen s.below a atn) s.below; progress = s.progress }
+  breaker_chosen s a atn = record s { below = cond (is_through (standing s)) (m.after_chosen s.below a atn) s.below }
 
   -- During a break the station below hears nothing. Its address and its waiting list are always the breaker's.
   abbrev pub breaker_meaning : Meaning (Breaker S)

@@ -73,7 +73,7 @@ abbrev pub store_of : Drive → List ℕ
 store_of d = d.image.bytes.now
 
 abbrev pub at_stage : Drive → Stage → Drive
-at_stage d s = record { image = d.image; address = d.address; stage = s }
+at_stage d s = record d { stage = s }
 
 -- chosen, it waits for a message if ATN is on, and for the command
 abbrev pub called_on : Bool → Stage

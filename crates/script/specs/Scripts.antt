@@ -60,7 +60,7 @@ waiting_at rows End = []
 waiting_at rows Leaving = []
 
 abbrev pub moved : Script → Script
-moved s = record { rows = s.rows; address = s.address; place = next_place s.rows.now s.place }
+moved s = record s { place = next_place s.rows.now s.place }
 
 -- a yes, or a Told on any wish but Off, moves on
 abbrev pub script_meaning : Meaning Script
