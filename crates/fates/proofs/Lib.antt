@@ -1,3 +1,3 @@
 mod Trying
-mod Seeking
+mod Reading
 mod Comparing

@@ -1,10 +1,11 @@
 -- A string that is made over a station and has a list of calls run on it: both promises, on the actual values.
-use Rattle.std.specs.Prelude.{◌≡◌, ℕ, ◌+◌, ◌<◌, ◌≤◌, Bool, true, false, cond, ◌&&◌, List, [], ◌∷◌, ◌++◌, length, drop, Some, None, Ok, Err, Option, Result, ◌==◌, nat_lt}
+use Rattle.std.specs.Prelude.{◌≡◌, ℕ, ◌+◌, Bool, true, false, cond, ◌&&◌, List, [], ◌∷◌, ◌++◌, Ok, Err, Option, Result, ◌==◌, nat_lt}
 use Rattle.bus.specs.Meaning.{Meaning}
 use Rattle.registers.specs.declared.answer.Answer.{Answer}
 use Rattle.registers.specs.declared.call.CallRow.{CallRow as Row}
 use Rattle.registers.specs.declared.call.Ran.{Ran}
 use Rattle.registers.specs.declared.call.RunRefusal.{RunRefusal}
+use Rattle.fates.specs.declared.records.Record.{Record}
 use Rattle.chip.specs.Outcomes.{made_new}
 use Rattle.account.specs.Accounts.{Account}
 use Rattle.account.specs.Fates.{held}
@@ -41,14 +42,9 @@ same [] (y ∷ ys) = false
 same (x ∷ xs) [] = false
 same (x ∷ xs) (y ∷ ys) = x == y && same xs ys
 
--- the record from a place on
-abbrev pub record_from : List Row → List Answer → ℕ → List ℕ
-record_from cs answers k = record_in (drop k cs) (drop k answers)
-
--- the next byte of a record, and the place behind it
-abbrev pub NextRead : List Row → List Answer → ℕ → Option (ℕ × ℕ) → Type 0
-NextRead cs answers k None = record_from cs answers k ≡ []
-NextRead cs answers k (Some x) = (record_from cs answers k ≡ x.0 ∷ record_from cs answers x.1) × (k < x.1) × (x.1 ≤ length cs)
+-- what is left of a record that is being read
+abbrev pub bytes_left : Record → List ℕ
+bytes_left r = record_in r.calls.now r.answers.now
 
 module _ {S : Type 0} (m : Meaning S) (i : ℕ) (s : S) (calls : List Row) where
   -- what the station has put up by then

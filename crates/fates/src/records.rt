@@ -1,8 +1,9 @@
 // Records: the Data In bytes that the host read, from its calls and their answers.
 ghost use Rattle.std.specs.Prelude.{◌≡◌};
+ghost use Rattle.std.specs.Iterator.{YieldsFirst, item_count};
 ghost use Rattle.registers.specs.Calls.{call_of};
 ghost use Rattle.account.specs.Runs.{listed_reads};
-ghost use Rattle.fates.specs.Trials.{reads_byte, record_in, same, NextRead};
+ghost use Rattle.fates.specs.Trials.{reads_byte, record_in, bytes_left, same};
 
 use bus::phase::Phase;
 use registers::answer::Answer;
@@ -27,21 +28,36 @@ fn reads_byte(call: CallRow, answer: Answer) -> bool
     answer.phase == u8::from(Phase::DataIn) && answer.refusal == 0 && reads_data(call)
 }
 
-// The first byte of the record from the call at `from` on, and the place behind it.
-fn next_read(calls: &[CallRow], answers: &[Answer], from: usize) -> Option<(u8, usize)>
-    ensures { NextRead calls.now answers.now from result }
-{
-    let mut at = from;
-    while at < calls.len() && at < answers.len() {
-        if reads_byte(calls[at], answers[at]) {
-            return Some((answers[at].value, at + 1));
+// A record that has not been read to its end: what is left of the calls and of their answers.
+#[derive(Drop)]
+struct Record<'a> {
+    calls: &'a [CallRow],
+    answers: &'a [Answer],
+}
+
+// The Data In bytes that the host read, in their order.
+impl<'a> Iterator for Record<'a> {
+    type Item = u8;
+
+    ghost next_gives = { YieldsFirst bytes_left };
+
+    ghost remaining = { item_count bytes_left };
+
+    #[tactic(auto, using(crate::proofs::Reading::without_answers))]
+    fn next(&mut self) -> Option<u8> {
+        while let ([call, calls @ ..], [answer, answers @ ..]) = (self.calls, self.answers) {
+            self.calls = calls;
+            self.answers = answers;
+            if reads_byte(*call, *answer) {
+                return Some(answer.value);
+            }
         }
-        at += 1;
+        None
     }
-    None
 }
 
 // Whether two records are equal: the Data In bytes read by two lists of calls, in their order.
+#[tactic(auto, using(crate::proofs::Reading::left_after, crate::proofs::Reading::past_equal))]
 pub fn same_record(
     calls: &[CallRow],
     answers: &[Answer],
@@ -50,19 +66,10 @@ pub fn same_record(
 ) -> bool
     ensures { result ≡ same (record_in calls.now answers.now) (record_in other_calls.now other_answers.now) }
 {
-    let mut at = 0;
-    let mut other_at = 0;
-    loop {
-        let Some((byte, next)) = next_read(calls, answers, at) else {
-            return next_read(other_calls, other_answers, other_at).is_none();
-        };
-        let Some((other_byte, other_next)) = next_read(other_calls, other_answers, other_at) else {
-            return false;
-        };
-        if byte != other_byte {
-            return false;
-        }
-        at = next;
-        other_at = other_next;
-    }
+    let record = Record { calls, answers };
+    let other = Record {
+        calls: other_calls,
+        answers: other_answers,
+    };
+    record.eq(other)
 }
