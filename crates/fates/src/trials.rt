@@ -1,9 +1,6 @@
 // Strings that are made over a station and have a list of calls run on them.
 ghost use Rattle.std.specs.Prelude.{◌≡◌};
-ghost use Rattle.chip.specs.Outcomes.{made_new};
 ghost use Rattle.account.specs.Fates.{EveryFate, RecordsTell};
-ghost use Rattle.account.specs.Lines.{line};
-ghost use Rattle.account.specs.Runs.{RunSays};
 ghost use Rattle.scsi_string.specs.Strings.{values};
 ghost use Rattle.fates.specs.Trials.{TrialSays, record_in, same, Compares};
 
@@ -14,94 +11,64 @@ use registers::answer::Answer;
 use registers::call::{CallRow, Ran, RunRefusal};
 use scsi_string::ScsiString;
 
+// What a string is made over, and the calls that are run on it. The answers stand beside it: they are read after the run, and
+// a clause names what is behind a field only by its place.
+#[derive(Drop)]
+pub struct Setup<'a, S> {
+    pub address: StationAddress,
+    pub station: S,
+    pub calls: &'a [CallRow],
+}
+
+// A string after its run, and what the run told.
+#[derive(Drop)]
+pub struct Tried<S> {
+    pub string: ScsiString<S>,
+    pub ran: Result<Ran, RunRefusal>,
+}
+
 // Makes a string over a station, runs a list of calls on it, and hands it back with what the run told. Every byte that the
 // station put up has its fate in the answers, in the chip or at the station.
-pub fn trial<S: Station>(
-    address: StationAddress,
-    station: S,
-    calls: &[CallRow],
-    answers: &mut [Answer],
-) -> (ScsiString<S>, Result<Ran, RunRefusal>)
-    ensures { TrialSays S.meaning address.number station calls.now answers.old (values result.0) answers.new result.1 }
+#[tactic(auto, using(crate::proofs::Trying::tried))]
+pub fn trial<S: Station>(setup: Setup<S>, answers: &mut [Answer]) -> Tried<S>
+    ensures { TrialSays S.meaning setup.entry.address.number setup.entry.station setup.entry.calls.now answers.old (values result.string) answers.new result.ran }
 {
-    make_and_run(address, station, calls, answers)
+    let mut string = ScsiString::new(setup.address, setup.station);
+    let ran = string.run(setup.calls, answers);
+    Tried { string, ran }
 }
 
-fn make_and_run<S: Station>(
-    address: StationAddress,
-    station: S,
-    calls: &[CallRow],
-    answers: &mut [Answer],
-) -> (ScsiString<S>, Result<Ran, RunRefusal>)
-    ensures { RunSays S.meaning calls.now (line (made_new address.number) station) answers.old (values result.0) answers.new result.1 }
-{
-    let mut string = ScsiString::new(address, station);
-    let ran = string.run(calls, answers);
-    (string, ran)
-}
-
-// Two strings, each after a run of its own, and whether their records are equal.
+// Two trials, and whether their records are equal.
+#[derive(Drop)]
 pub struct Comparison<P, Q> {
-    pub first: ScsiString<P>,
-    pub first_ran: Result<Ran, RunRefusal>,
-    pub second: ScsiString<Q>,
-    pub second_ran: Result<Ran, RunRefusal>,
+    pub first: Tried<P>,
+    pub second: Tried<Q>,
     pub equal: bool,
 }
 
 // Makes two strings over any two stations, runs a list of calls on each, and compares their records. Complete records are
 // equal exactly when the stations put up equal bytes.
+#[tactic(auto, using(crate::proofs::Comparing::compares))]
 pub fn compare<P: Station, Q: Station>(
-    first: (StationAddress, P),
-    first_calls: &[CallRow],
+    first: Setup<P>,
     first_answers: &mut [Answer],
-    second: (StationAddress, Q),
-    second_calls: &[CallRow],
+    second: Setup<Q>,
     second_answers: &mut [Answer],
 ) -> Comparison<P, Q>
-    ensures first { TrialSays P.Station.meaning first.0.number first.1 first_calls.now first_answers.old (values result.first) first_answers.new result.first_ran }
-    ensures second { TrialSays Q.Station.meaning second.0.number second.1 second_calls.now second_answers.old (values result.second) second_answers.new result.second_ran }
-    ensures equal { result.equal ≡ same (record_in first_calls.now first_answers.new) (record_in second_calls.now second_answers.new) }
-    ensures records { Compares P.Station.meaning Q.Station.meaning first.0.number second.0.number first.1 second.1 first_calls.now second_calls.now first_answers.new (values result.first) result.first_ran second_answers.new (values result.second) result.second_ran result.equal }
+    ensures first { TrialSays P.Station.meaning first.entry.address.number first.entry.station first.entry.calls.now first_answers.old (values result.first.string) first_answers.new result.first.ran }
+    ensures second { TrialSays Q.Station.meaning second.entry.address.number second.entry.station second.entry.calls.now second_answers.old (values result.second.string) second_answers.new result.second.ran }
+    ensures equal { result.equal ≡ same (record_in first.entry.calls.now first_answers.new) (record_in second.entry.calls.now second_answers.new) }
+    ensures records { Compares P.Station.meaning Q.Station.meaning first.entry.address.number second.entry.address.number first.entry.station second.entry.station first.entry.calls.now second.entry.calls.now first_answers.new (values result.first.string) result.first.ran second_answers.new (values result.second.string) result.second.ran result.equal }
     ensures fates { EveryFate P.Station.meaning × EveryFate Q.Station.meaning }
     ensures histories { RecordsTell P.Station.meaning Q.Station.meaning }
 {
-    let (address, station) = first;
-    let (other_address, other_station) = second;
-    run_both(
-        address,
-        station,
-        first_calls,
-        first_answers,
-        other_address,
-        other_station,
-        second_calls,
-        second_answers,
-    )
-}
-
-fn run_both<P: Station, Q: Station>(
-    address: StationAddress,
-    station: P,
-    calls: &[CallRow],
-    answers: &mut [Answer],
-    other_address: StationAddress,
-    other_station: Q,
-    other_calls: &[CallRow],
-    other_answers: &mut [Answer],
-) -> Comparison<P, Q>
-    ensures first { TrialSays P.Station.meaning address.number station calls.now answers.old (values result.first) answers.new result.first_ran }
-    ensures second { TrialSays Q.Station.meaning other_address.number other_station other_calls.now other_answers.old (values result.second) other_answers.new result.second_ran }
-    ensures equal { result.equal ≡ same (record_in calls.now answers.new) (record_in other_calls.now other_answers.new) }
-{
-    let (first, first_ran) = trial(address, station, calls, answers);
-    let (second, second_ran) = trial(other_address, other_station, other_calls, other_answers);
-    let equal = same_record(calls, answers, other_calls, other_answers);
+    let (first_calls, second_calls) = (first.calls, second.calls);
+    let first = trial(first, first_answers);
+    let second = trial(second, second_answers);
+    let equal = same_record(first_calls, first_answers, second_calls, second_answers);
     Comparison {
         first,
-        first_ran,
         second,
-        second_ran,
         equal,
     }
 }

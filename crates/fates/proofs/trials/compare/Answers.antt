@@ -1,18 +1,9 @@
 use Rattle.account.proofs.Account.{every_fate}
 use Rattle.account.proofs.Records.{records_tell}
-use Rattle.fates.proofs.Comparing.{compares}
 use Rattle.fates.proofs.trials.compare.Goals as goal
 
-pub returns : goal.returns
-returns g c =
-    let m = g.P.Station.meaning in
-    let n = g.Q.Station.meaning in
-    let did = c.run_both.ensures in
-    record {
-      first = did.first;
-      second = did.second;
-      equal = did.equal;
-      records = compares m n _ _ _ _ _ _ _ _ _ _ did.first _ _ _ _ did.second _ did.equal;
-      fates = (every_fate m g.P.Station.lawful, every_fate n g.Q.Station.lawful);
-      histories = records_tell m n g.P.Station.lawful g.Q.Station.lawful;
-    }
+pub returns-clause-fates : goal.returns-clause-fates
+returns-clause-fates g c = (every_fate g.P.Station.meaning g.P.Station.lawful, every_fate g.Q.Station.meaning g.Q.Station.lawful)
+
+pub returns-clause-histories : goal.returns-clause-histories
+returns-clause-histories g c = records_tell g.P.Station.meaning g.Q.Station.meaning g.P.Station.lawful g.Q.Station.lawful
