@@ -14,7 +14,7 @@ use Rattle.account.specs.Laws.{step_of}
 use Rattle.registers.specs.Calls.{call_of}
 use Rattle.account.specs.Runs.{listed_step, row_step, noted, answered, recorded}
 use Rattle.account.proofs.Records.{complete_record}
-use Rattle.fates.specs.Trials.{answer_reads, answer_loses, record_in, lost_data, same, put_up, Trial, TrialSays, Whole, Compares}
+use Rattle.fates.specs.Trials.{answer_reads, answer_loses, record_in, lost_data, same, put_up, Trial, TrialGives, Whole, RunsCompare}
 
 -- what a call of a list and its answer tell, the entries tell too, if the rest does
 byte_noted : {S : Type 0} (m : Meaning S) (o : Option Call) (l : Line S) (k : ℕ) (bytes : List ℕ) (es : List Entry) → bytes ≡ record_of es → cond (answer_reads o (listed_step m o l).answer) ((listed_step m o l).answer.value ∷ []) [] ++ bytes ≡ record_of (noted o k (listed_step m o l).answer ++ es)
@@ -63,7 +63,7 @@ module _ {S : Type 0} (m : Meaning S) (i : ℕ) (s : S) (cs : List Row) (room : 
       ∙ sym read_bytes
 
 module _ {P Q : Type 0} (m : Meaning P) (n : Meaning Q) (i j : ℕ) (p : P) (q : Q) (cs ds : List Row) where
-  pub compares : (room : List Answer) (l : Line P) (room' : List Answer) (r : Result Ran RunRefusal) → TrialSays m i p cs room l room' r → (more : List Answer) (k : Line Q) (more' : List Answer) (u : Result Ran RunRefusal) → TrialSays n j q ds more k more' u → (equal : Bool) → equal ≡ same (record_in cs room') (record_in ds more') → Compares m n i j p q cs ds room' l r more' k u equal
+  pub compares : (room : List Answer) (l : Line P) (room' : List Answer) (r : Result Ran RunRefusal) → TrialGives m i p cs room l room' r → (more : List Answer) (k : Line Q) (more' : List Answer) (u : Result Ran RunRefusal) → TrialGives n j q ds more k more' u → (equal : Bool) → equal ≡ same (record_in cs room') (record_in ds more') → RunsCompare m n i j p q cs ds room' l r more' k u equal
   compares room l room' (Ok t) a more k more' (Ok u) b equal e = λ w x.
       let first = is_put_up m i p cs room l room' t a w in
       let second = is_put_up n j q ds more k more' u b x in (

@@ -6,6 +6,10 @@ use Rattle.registers.specs.declared.call.CallRow.{CallRow as Row}
 use Rattle.registers.specs.declared.call.Ran.{Ran}
 use Rattle.registers.specs.declared.call.RunRefusal.{RunRefusal}
 use Rattle.fates.specs.declared.records.Record.{Record}
+use Rattle.fates.specs.declared.trials.Setup.{Setup}
+use Rattle.fates.specs.declared.trials.Tried.{Tried}
+use Rattle.fates.specs.declared.trials.Comparison.{Comparison}
+use Rattle.scsi_string.specs.Strings.{values}
 use Rattle.chip.specs.Outcomes.{made_new}
 use Rattle.account.specs.Accounts.{Account}
 use Rattle.account.specs.Fates.{held}
@@ -61,9 +65,13 @@ module _ {S : Type 0} (m : Meaning S) (i : ℕ) (s : S) (calls : List Row) where
     pub not_run : NotRun calls (line (made_new i) s) room l room'
     pub account : Account m (m.waiting s) [] l
 
-  abbrev pub TrialSays : List Answer → Line S → List Answer → Result Ran RunRefusal → Type 0
-  TrialSays room l room' (Ok t) = Trial room l room' t
-  TrialSays room l room' (Err e) = Untried room l room'
+  abbrev pub TrialGives : List Answer → Line S → List Answer → Result Ran RunRefusal → Type 0
+  TrialGives room l room' (Ok t) = Trial room l room' t
+  TrialGives room l room' (Err e) = Untried room l room'
+
+-- the same of a setup, what a trial of it leaves, and the room for the answers before and after
+abbrev pub TrialSays : {S : Type 0} → Meaning S → Setup S → List Answer → Tried S → List Answer → Type 0
+TrialSays m setup room t room' = TrialGives m setup.address.number setup.station setup.calls.now room (values t.string) room' t.ran
 
 -- a run whose record is complete: no Data In byte waits, is held or was lost
 pub record Whole {S : Type 0} (m : Meaning S) (calls : List Row) (answers : List Answer) (l : Line S) : Type 0 where
@@ -78,7 +86,13 @@ module _ {P Q : Type 0} (m : Meaning P) (n : Meaning Q) (i j : ℕ) (p : P) (q :
       Whole m cs xs l → Whole n ds bs k → (equal ≡ true → put_up m i p cs ≡ put_up n j q ds) × (put_up m i p cs ≡ put_up n j q ds → equal ≡ true)
 
   -- of two runs that were not refused
-  abbrev pub Compares : List Answer → Line P → Result Ran RunRefusal → List Answer → Line Q → Result Ran RunRefusal → Bool → Type 0
-  Compares xs l (Ok t) bs k (Ok u) equal = TellsApart xs l bs k equal
-  Compares xs l (Ok t) bs k (Err e) equal = Unit {0}
-  Compares xs l (Err e) bs k r equal = Unit {0}
+  abbrev pub RunsCompare : List Answer → Line P → Result Ran RunRefusal → List Answer → Line Q → Result Ran RunRefusal → Bool → Type 0
+  RunsCompare xs l (Ok t) bs k (Ok u) equal = TellsApart xs l bs k equal
+  RunsCompare xs l (Ok t) bs k (Err e) equal = Unit {0}
+  RunsCompare xs l (Err e) bs k r equal = Unit {0}
+
+-- the same of two setups, the answers to each, and what the comparison leaves
+abbrev pub Compares : {P Q : Type 0} → Meaning P → Meaning Q → Setup P → List Answer → Setup Q → List Answer → Comparison P Q → Type 0
+Compares m n first xs second bs c =
+    RunsCompare m n first.address.number second.address.number first.station second.station first.calls.now second.calls.now
+    xs (values c.first.string) c.first.ran bs (values c.second.string) c.second.ran c.equal

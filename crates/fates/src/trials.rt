@@ -1,7 +1,6 @@
 // Strings that are made over a station and have a list of calls run on them.
 ghost use Rattle.std.specs.Prelude.{◌≡◌};
 ghost use Rattle.account.specs.Fates.{EveryFate, RecordsTell};
-ghost use Rattle.scsi_string.specs.Strings.{values};
 ghost use Rattle.fates.specs.Trials.{TrialSays, record_in, same, Compares};
 
 use super::records::same_record;
@@ -11,8 +10,8 @@ use registers::answer::Answer;
 use registers::call::{CallRow, Ran, RunRefusal};
 use scsi_string::ScsiString;
 
-// What a string is made over, and the calls that are run on it. The answers stand beside it: they are read after the run, and
-// a clause names what is behind a field only by its place.
+// What a string is made over, and the calls that are run on it.
+// The answers stand beside it: a clause names what is behind a struct's `&mut` only by its place, as `exit.1.1.1`.
 #[derive(Drop)]
 pub struct Setup<'a, S> {
     pub address: StationAddress,
@@ -31,7 +30,7 @@ pub struct Tried<S> {
 // station put up has its fate in the answers, in the chip or at the station.
 #[tactic(auto, using(crate::proofs::Trying::tried))]
 pub fn trial<S: Station>(setup: Setup<S>, answers: &mut [Answer]) -> Tried<S>
-    ensures { TrialSays S.meaning setup.entry.address.number setup.entry.station setup.entry.calls.now answers.old (values result.string) answers.new result.ran }
+    ensures { TrialSays S.meaning setup.entry answers.old result answers.new }
 {
     let mut string = ScsiString::new(setup.address, setup.station);
     let ran = string.run(setup.calls, answers);
@@ -55,10 +54,10 @@ pub fn compare<P: Station, Q: Station>(
     second: Setup<Q>,
     second_answers: &mut [Answer],
 ) -> Comparison<P, Q>
-    ensures first { TrialSays P.Station.meaning first.entry.address.number first.entry.station first.entry.calls.now first_answers.old (values result.first.string) first_answers.new result.first.ran }
-    ensures second { TrialSays Q.Station.meaning second.entry.address.number second.entry.station second.entry.calls.now second_answers.old (values result.second.string) second_answers.new result.second.ran }
+    ensures first { TrialSays P.Station.meaning first.entry first_answers.old result.first first_answers.new }
+    ensures second { TrialSays Q.Station.meaning second.entry second_answers.old result.second second_answers.new }
     ensures equal { result.equal ≡ same (record_in first.entry.calls.now first_answers.new) (record_in second.entry.calls.now second_answers.new) }
-    ensures records { Compares P.Station.meaning Q.Station.meaning first.entry.address.number second.entry.address.number first.entry.station second.entry.station first.entry.calls.now second.entry.calls.now first_answers.new (values result.first.string) result.first.ran second_answers.new (values result.second.string) result.second.ran result.equal }
+    ensures records { Compares P.Station.meaning Q.Station.meaning first.entry first_answers.new second.entry second_answers.new result }
     ensures fates { EveryFate P.Station.meaning × EveryFate Q.Station.meaning }
     ensures histories { RecordsTell P.Station.meaning Q.Station.meaning }
 {
