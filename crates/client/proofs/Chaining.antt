@@ -72,6 +72,3 @@ module _ {S : Type 0} (m : Meaning S) (s : S) where
   -- the same calls and answers, told otherwise
   pub retold : {cs cs' : List Call} {xs xs' : List Answer} {l : Line S} → cs ≡ cs' → xs ≡ xs' → Kept m s cs xs l → Kept m s cs' xs' l
   retold {l = l} c x k = record { entries = k.entries; joined = k.joined; made = k.made ∙ c; said = k.said ∙ x; account = k.account }
-
-pub five_more : {A : Type 0} (xs : List A) (a b c d e : A) → ((((xs ++ (a ∷ [])) ++ (b ∷ [])) ++ (c ∷ [])) ++ (d ∷ [])) ++ (e ∷ []) ≡ xs ++ (a ∷ b ∷ c ∷ d ∷ e ∷ [])
-five_more xs a b c d e = simp append_assoc

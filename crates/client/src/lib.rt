@@ -4,14 +4,13 @@
 
 ghost use Rattle.std.specs.Prelude.{[], ◌∷◌, ◌++◌};
 ghost use Rattle.account.specs.Accounts.{KeepsAccount};
-ghost use Rattle.registers.specs.declared.call.Call.TheVariants.{Read as a_read, Write as a_write, DmaRead as a_dma_read, DmaWrite as a_dma_write, Tick as a_tick, Turn as a_turn, Reset as a_reset};
 ghost use Rattle.scsi_string.specs.Strings.{values};
 ghost use Rattle.client.specs.Surveys.{Kept, calls_run, answers_run};
 
 use bus::address::StationAddress;
 use bus::station::Station;
 use registers::answer::Answer;
-use registers::call::{CallRow, Ran, RunRefusal};
+use registers::call::{Call, CallRow, Ran, RunRefusal};
 use registers::register::Register;
 use scsi_string::ScsiString;
 
@@ -30,6 +29,7 @@ const COUNTER_LOW: u8 = Register::CounterLow as u8;
 const SELECT: u8 = 9;
 
 // What a survey finds: the string, and every answer.
+#[derive(Drop)]
 pub struct Findings<S> {
     pub string: ScsiString<S>,
     // The answers before the run.
@@ -40,7 +40,7 @@ pub struct Findings<S> {
 }
 
 fn select<S: Station>(string: &mut ScsiString<S>) -> Answer
-    ensures { KeepsAccount S.meaning (a_write 1 9) (values string.old) result (values string.new) }
+    ensures { KeepsAccount S.meaning (Call.Write 1 9) (values string.old) result (values string.new) }
 {
     string.write(COMMAND, SELECT)
 }
@@ -55,7 +55,7 @@ pub fn survey<S: Station>(
     answers: &mut [Answer],
 ) -> Findings<S>
     ensures { Kept S.meaning station
-        ((a_write 3 destination ∷ a_write 14 16 ∷ a_write 4 0 ∷ a_write 1 9 ∷ a_turn ∷ a_tick ∷ a_turn ∷ a_read 6 ∷ []) ++ (calls_run calls.now result.ran ++ (a_dma_write 85 ∷ a_dma_read ∷ a_read 4 ∷ a_reset ∷ a_read 6 ∷ [])))
+        ((Call.Write 3 destination ∷ Call.Write 14 16 ∷ Call.Write 4 0 ∷ Call.Write 1 9 ∷ Call.Turn ∷ Call.Tick ∷ Call.Turn ∷ Call.Read 6 ∷ []) ++ (calls_run calls.now result.ran ++ (Call.DmaWrite 85 ∷ Call.DmaRead ∷ Call.Read 4 ∷ Call.Reset ∷ Call.Read 6 ∷ [])))
         (result.before ++ (answers_run calls.now answers.new result.ran ++ result.after))
         (values result.string) }
 {

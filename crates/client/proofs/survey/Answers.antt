@@ -1,8 +1,5 @@
-use Rattle.std.proofs.Common.{List, [], ◌∷◌, ◌++◌, ap}
-use Rattle.registers.specs.declared.answer.Answer.{Answer}
-use Rattle.registers.specs.declared.call.Call.{Call}
-use Rattle.registers.specs.declared.call.Call.TheVariants.{Read as read, Write as write, Tick as tick, Turn as turn}
-use Rattle.client.proofs.Chaining.{opened, then_call, then_run, retold, five_more}
+use Rattle.std.proofs.Common.{append_assoc}
+use Rattle.client.proofs.Chaining.{opened, then_call, then_run, retold}
 use Rattle.client.proofs.survey.Goals as goal
 
 -- the account is opened, and each call goes on with it
@@ -25,6 +22,4 @@ returns g c =
     let status = then_call m s taken c.read-status.ensures.account in
     let reset = then_call m s status c.reset-reset.ensures.account in
     let cleared = then_call m s reset c.read-cleared.ensures.account in
-    let before : List Call = write 3 c.args.destination ∷ write 14 16 ∷ write 4 0 ∷ write 1 9 ∷ turn ∷ tick ∷ turn ∷ read 6 ∷ [] in
-    let said : List Answer = c.write-destined.result ∷ c.write-limited.result ∷ c.write-refused.result ∷ c.select-selected.result ∷ c.turn-arbitrated.result ∷ c.tick-ticked.result ∷ c.turn-chosen.result ∷ c.read-interrupt.result ∷ [] in
-    retold m s (ap (λ r. before ++ r) (five_more _ _ _ _ _ _)) (ap (λ r. said ++ r) (five_more _ _ _ _ _ _)) cleared
+    retold m s (simp append_assoc) (simp append_assoc) cleared
