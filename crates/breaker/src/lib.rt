@@ -91,7 +91,8 @@ impl<S: Station> Breaker<S> {
     pub fn into_below(self) -> S
         ensures { result ≡ self.below }
     {
-        self.below
+        let Breaker { below, progress: _ } = self;
+        below
     }
 
     // Whether a break is due: so many bytes went through, and the station below shows one more.
