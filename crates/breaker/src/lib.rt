@@ -84,7 +84,8 @@ impl<S: Station> Breaker<S> {
     pub fn progress(&self) -> Progress
         ensures { result ≡ progress_of self.now }
     {
-        self.progress
+        let reached = self.progress;
+        reached
     }
 
     // The station below, as it is now.

@@ -68,7 +68,8 @@ impl<'a> Drive<'a> {
     pub fn stage(&self) -> Stage
         ensures { result ≡ self.now.stage }
     {
-        self.stage
+        let reached = self.stage;
+        reached
     }
 
     // After one more byte of a command, the sixth of which has it answered.

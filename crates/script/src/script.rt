@@ -55,7 +55,8 @@ impl<'a> Script<'a> {
     pub fn place(&self) -> Place
         ensures { result ≡ self.now.place }
     {
-        self.place
+        let reached = self.place;
+        reached
     }
 
     // The number of the present record, if play stands at one.
