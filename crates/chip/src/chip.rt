@@ -9,7 +9,8 @@ use bus::phase::Phase;
 use registers::answer::Reaction;
 use registers::state::State;
 
-// The registers that can be written, and those that the chip sets.
+// The registers that can be written, and those that the chip sets: the numbers that the host writes and reads, with C's layout,
+// since a host that is not written in Rattle saves them.
 #[repr(C)]
 #[derive(Clone, Copy, Debug, Default, PartialEq, Eq)]
 pub struct Registers {

@@ -166,7 +166,8 @@ impl<S: Station> ScsiString<S> {
         })
     }
 
-    // Makes a call, puts its answer at a place, and adds up the bytes lost.
+    // Makes a call, puts its answer at a place, and adds up the bytes lost. By its index: a proof knows no element of what was
+    // written through `iter_mut` and `zip`.
     fn fill(&mut self, answers: &mut [Answer], at: usize, call: CallRow, lost: u32) -> u32
         requires { (at < length answers.old) × (lost < 2 ^ 31) }
         ensures after { values self.new ≡ (row_step S.meaning call (values self.old)).left }
