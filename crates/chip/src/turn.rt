@@ -176,7 +176,9 @@ impl Ncr5385e {
         }
     }
 
-    // Keeps an input byte; bad parity counts under Parity Enable.
+    // Keeps an input byte; bad parity counts under Parity Enable. Each step of an input transfer asks that one is under way, which
+    // is true of a chip there and not of every chip; and byte and parity go along as the wish has them, since no step wants the
+    // two as one.
     fn keep(&mut self, byte: u8, parity: Parity)
         requires { (self.old.received.count < places) × ((is_transferring self.old.state ≡ true) × (is_input self.old.latched ≡ true)) }
         ensures { model self.new ≡ kept (model self.old) byte parity }
