@@ -90,7 +90,7 @@ fn serve<S: Kept + Drop>(
     serve_parts::<S>(state, lent, parts, calls, answers).map_err(ServeRefusal::Run)
 }
 
-// Serves a string whose station is a drive.
+// Serves a string whose station is a drive. The arguments are those of a call from C, one by one, here and below it.
 pub fn serve_drive(
     state: &mut SavedString,
     image: &[u8],
