@@ -1,7 +1,9 @@
 pub mod Phases
 pub mod Parities
 pub mod Ids
+pub mod Addresses
 pub mod Messages
+pub mod Statuses
 pub mod Wishes
 pub mod Meaning
 pub mod Courses

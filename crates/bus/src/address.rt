@@ -4,12 +4,19 @@ ghost use Rattle.std.specs.Prelude.{◌≡◌, ◌%◌, ◌<◌, bit_or};
 ghost use Rattle.std.specs.Option.{option_map};
 ghost use Rattle.bus.specs.Ids.{station_bit, scanned, decoded};
 
+use thiserror::Error;
+
 // An address on the cable, 0 to 7.
 #[derive(Clone, Copy, Debug, PartialEq, Eq)]
 pub struct StationAddress {
     number: u8,
     ghost within: { number < 8 },
 }
+
+// A number above 7, where an address has to be one of a station.
+#[derive(Clone, Copy, Debug, PartialEq, Eq, Error)]
+#[error("there is no address {0}")]
+pub struct NoSuchAddress(pub u8);
 
 // What stands on the data lines in a selection or a reselection: bit n is set for station n.
 #[derive(Clone, Copy, Debug, PartialEq, Eq)]
@@ -38,6 +45,23 @@ impl StationAddress {
     {
         IdByte {
             bits: 1 << self.number,
+        }
+    }
+}
+
+// No number is taken mod 8 here.
+impl TryFrom<u8> for StationAddress {
+    ghost use Rattle.bus.specs.Addresses.{AddressOf};
+
+    type Error = NoSuchAddress;
+
+    ghost try_from_gives = { AddressOf };
+
+    fn try_from(number: u8) -> Result<StationAddress, NoSuchAddress> {
+        if number < 8 {
+            Ok(StationAddress { number })
+        } else {
+            Err(NoSuchAddress(number))
         }
     }
 }

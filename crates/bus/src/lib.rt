@@ -7,6 +7,7 @@ pub mod parity;
 pub mod patient;
 pub mod phase;
 pub mod station;
+pub mod status;
 #[cfg(test)]
 mod tests;
 pub mod wish;

@@ -27,8 +27,8 @@ pub enum Wish {
 }
 
 impl Wish {
-    // The number of the case, as a row of a script has it: 0 Off, 1 Back, 2 Hold, 3 Req, 4 Go. A case carries values, so no
-    // cast gives its number, and a wish is not one that a number could be made into: a method says it plainest.
+    // The number of the case, as a row of a script has it: 0 Off, 1 Back, 2 Hold, 3 Req, 4 Go. A method, since a case that
+    // carries values cannot be cast to its number, nor made of it.
     pub fn kind(self) -> u8
         ensures { result ≡ wish_kind self }
     {

@@ -1,9 +1,9 @@
 // What the drive does for a command.
 ghost use Rattle.std.specs.Prelude.{◌≡◌};
-ghost use Rattle.bus.specs.Messages.{status_byte};
+ghost use Rattle.bus.specs.Statuses.{status_byte};
 ghost use Rattle.drive.specs.Commands.{no_command, decoded, reply, reply_to};
 
-use bus::message::Status;
+use bus::status::Status;
 
 // The bytes of a command that came so far. A buffer with its length, since a station is a plain Copy struct with no heap.
 #[derive(Clone, Copy, Debug, PartialEq, Eq)]

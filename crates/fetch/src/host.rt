@@ -1,7 +1,8 @@
 // The host: a driver that waits for interrupts, and moves bytes between them.
 use super::failure::Failure;
 use super::order::{Request, Way};
-use bus::message::{Message, Status};
+use bus::message::Message;
+use bus::status::Status;
 use bus::phase::Phase;
 use bus::station::Station;
 use registers::answer::{Answer, CONNECTED, INT};
