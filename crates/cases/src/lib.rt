@@ -8,6 +8,7 @@ ghost use Rattle.cases.specs.Cases.{WorkedCases};
 
 use bus::address::StationAddress;
 use chip::chip::Ncr5385e;
+use registers::register::Register;
 
 // What a new chip with ID 7 shows of Auxiliary Status, ID, Interrupt, Source ID and Diagnostic Status; and with it stand all
 // the worked cases.
@@ -15,11 +16,11 @@ pub fn worked_cases() -> [u8; 5]
     ensures shown { result ≡ 2 ∷ 7 ∷ 0 ∷ 7 ∷ 128 ∷ [] }
     ensures cases { WorkedCases }
 {
-    let status = shown(4);
-    let id = shown(5);
-    let interrupt = shown(6);
-    let source = shown(7);
-    let diagnostic = shown(9);
+    let status = shown(Register::AuxiliaryStatus as u8);
+    let id = shown(Register::Id as u8);
+    let interrupt = shown(Register::Interrupt as u8);
+    let source = shown(Register::SourceId as u8);
+    let diagnostic = shown(Register::DiagnosticStatus as u8);
     [status, id, interrupt, source, diagnostic]
 }
 

@@ -12,7 +12,7 @@ use refusal::ChainRefusal;
 pub trait Linked {
     ghost next: { Self → ℕ };
 
-    // The number of the record after this one, zero for none.
+    // The number of the record after this one, zero for none, as the tables of records have it.
     fn next(&self) -> usize
         ensures { result ≡ next self.now };
 }

@@ -3,11 +3,13 @@ ghost use Rattle.std.specs.Prelude.{◌≡◌, ◌≤◌, length, if◌then◌el
 ghost use Rattle.bus.specs.Phases.{phase_number, in_data_in};
 ghost use Rattle.registers.specs.Answers.{direction_number};
 ghost use Rattle.chip.specs.Model.{model};
+ghost use Rattle.chip.specs.Losses.{lost_count, lost_phase};
 ghost use Rattle.chip.specs.Outcomes.{outcome, is_single, is_pad, left, in_dma, wants_byte, dreq, lines_of, quiet, valued, moved, loss, silent, tells, refused};
 
 use super::chip::{Loss, Ncr5385e};
 use bus::phase::Phase;
 use registers::answer::{ACK, ATN, Answer, CONNECTED, DREQ, Direction, INT, Reaction, Response};
+use registers::command::Code;
 use registers::refusal::Refusal;
 
 // A bit that is on or off, with its weight.
@@ -27,7 +29,7 @@ pub(crate) fn is_single(command: u8) -> bool
 pub(crate) fn is_pad(command: u8) -> bool
     ensures { result ≡ is_pad command }
 {
-    command & 31 == 0x15
+    command & 31 == Code::TransferPad as u8
 }
 
 impl Ncr5385e {
@@ -124,13 +126,17 @@ impl Ncr5385e {
         }
     }
 
-    pub(crate) fn loss(&self, lost: Loss) -> Answer
-        ensures { result ≡ loss lost.count lost.phase (model self.now) }
+    // Bytes lost, if any were.
+    pub(crate) fn loss(&self, lost: Option<Loss>) -> Answer
+        ensures { result ≡ loss (lost_count lost) (lost_phase lost) (model self.now) }
     {
-        Answer {
-            phase: lost.phase,
-            lost: lost.count,
-            ..self.quiet()
+        match lost {
+            None => self.quiet(),
+            Some(Loss { count, phase }) => Answer {
+                phase: phase.into(),
+                lost: count,
+                ..self.quiet()
+            },
         }
     }
 

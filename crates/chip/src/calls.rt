@@ -1,14 +1,15 @@
 // The calls of the host: registers, DMA and ticks.
-ghost use Rattle.std.specs.Prelude.{◌≡◌};
+ghost use Rattle.std.specs.Prelude.{◌≡◌, ◌^◌, ◌<◌};
 ghost use Rattle.chip.specs.Model.{model};
-ghost use Rattle.chip.specs.Outcomes.{outcome};
+ghost use Rattle.chip.specs.Outcomes.{outcome, silent};
 ghost use Rattle.chip.specs.Reads.{status_of, shows, takes_data, puts_data, read_register, reads, is_chip_reset, write_register, writes, dma_check, dma_reads, dma_writes, runs_out, ticks};
+ghost use Rattle.chip.specs.Views.{to_counter};
 
 use super::answers::flag;
 use super::chip::{Ncr5385e, Written};
 use registers::answer::{Answer, Response};
 use registers::cause::Cause;
-use registers::command::Command;
+use registers::command::{Code, Command};
 use registers::refusal::Refusal;
 use registers::register::Register;
 use registers::state::State;
@@ -79,6 +80,7 @@ impl Ncr5385e {
     fn read_register(&mut self, register: Register) -> Response
         ensures { outcome (model self.new) result ≡ read_register (model self.old) register }
     {
+        let [_, high, middle, low] = self.registers.counter.to_be_bytes();
         match register {
             Register::Data if self.in_dma() => self.refuse(Refusal::Dma),
             Register::Data => self.take_data(),
@@ -95,9 +97,9 @@ impl Ncr5385e {
             }
             Register::SourceId => self.show(self.registers.source),
             Register::DiagnosticStatus => self.show(DIAGNOSTIC),
-            Register::CounterHigh => self.show((self.registers.counter / 65536) as u8),
-            Register::CounterMiddle => self.show((self.registers.counter / 256 % 256) as u8),
-            Register::CounterLow => self.show((self.registers.counter % 256) as u8),
+            Register::CounterHigh => self.show(high),
+            Register::CounterMiddle => self.show(middle),
+            Register::CounterLow => self.show(low),
         }
     }
 
@@ -105,7 +107,7 @@ impl Ncr5385e {
     fn is_chip_reset(address: u8, value: u8) -> bool
         ensures { result ≡ is_chip_reset address value }
     {
-        address == u8::from(Register::Command) && value & 31 == 0
+        address == u8::from(Register::Command) && value & 31 == Code::ChipReset as u8
     }
 
     // A register write.
@@ -124,6 +126,7 @@ impl Ncr5385e {
     fn write_register(&mut self, register: Register, value: u8) -> Response
         ensures { outcome (model self.new) result ≡ write_register (model self.old) register value }
     {
+        let [_, high, middle, low] = self.registers.counter.to_be_bytes();
         match register {
             Register::Data if self.in_dma() => self.refuse(Refusal::Dma),
             Register::Data => self.put_data(value),
@@ -141,26 +144,23 @@ impl Ncr5385e {
                 self.registers.destination = value & 7;
                 self.done()
             }
-            Register::CounterHigh => {
-                self.registers.counter = u32::from(value) * 65536 + self.registers.counter % 65536;
-                self.done()
-            }
-            Register::CounterMiddle => {
-                self.registers.counter = self.registers.counter / 65536 * 65536
-                    + u32::from(value) * 256
-                    + self.registers.counter % 256;
-                self.done()
-            }
-            Register::CounterLow => {
-                self.registers.counter = self.registers.counter / 256 * 256 + u32::from(value);
-                self.done()
-            }
+            Register::CounterHigh => self.count(u32::from_be_bytes([0, value, middle, low])),
+            Register::CounterMiddle => self.count(u32::from_be_bytes([0, high, value, low])),
+            Register::CounterLow => self.count(u32::from_be_bytes([0, high, middle, value])),
             Register::AuxiliaryStatus
             | Register::Id
             | Register::Interrupt
             | Register::SourceId
             | Register::DiagnosticStatus => { self.refuse(Refusal::ReadOnly) }
         }
+    }
+
+    fn count(&mut self, counter: u32) -> Response
+        requires { counter < 2 ^ 24 }
+        ensures { outcome (model self.new) result ≡ silent (to_counter counter (model self.old)) }
+    {
+        self.registers.counter = counter;
+        self.done()
     }
 
     // DMA moves bytes in a DMA transfer, and nowhere else.

@@ -47,18 +47,18 @@ pub struct Written {
     pub phase: Phase,
 }
 
-// Bytes that a call loses: how many, and the number of the phase in which they came. Both are zero where there are none.
-#[derive(Clone, Copy, Debug, Default, PartialEq, Eq)]
+// Bytes that a call loses, and the phase in which they came.
+#[derive(Clone, Copy, Debug, PartialEq, Eq)]
 pub(crate) struct Loss {
     pub(crate) count: u8,
-    pub(crate) phase: u8,
+    pub(crate) phase: Phase,
 }
 
 // What a call that loses all that is held has to tell: what the station hears, and what is lost.
 #[derive(Clone, Copy, Debug, PartialEq, Eq)]
 pub(crate) struct Parting {
     pub(crate) reaction: Reaction,
-    pub(crate) lost: Loss,
+    pub(crate) lost: Option<Loss>,
 }
 
 #[derive(Clone, Copy)]
@@ -67,7 +67,7 @@ pub struct Ncr5385e {
     pub state: State,
     // The phase that the station asked for last.
     pub latched: Phase,
-    // What a command with Single Byte has left to move: one byte or none.
+    // What a command with Single Byte has left to move: a count, like the counter, of one byte or none.
     pub single: u8,
     pub registers: Registers,
     pub flags: Flags,

@@ -2,6 +2,7 @@
 ghost use Rattle.std.specs.Prelude.{◌≡◌, true, false, is_some, if◌then◌else◌};
 ghost use Rattle.registers.specs.Causes.{cause_number};
 ghost use Rattle.registers.specs.States.{is_transferring};
+ghost use Rattle.chip.specs.Losses.{lost_count, lost_phase};
 ghost use Rattle.chip.specs.Model.{model};
 ghost use Rattle.chip.specs.Orders.{resets, accepted, started, offered, disconnects, pauses, shut_down, disables, commanded};
 ghost use Rattle.chip.specs.Outcomes.{outcome, gives, dropping_ack, raised, gone_idle, loss, emptied, made_new, written_phase, held_count, held_phase};
@@ -48,38 +49,35 @@ impl Ncr5385e {
     }
 
     // The written byte, where there is one.
-    fn written_byte(&self) -> Loss
-        ensures count { result.count ≡ (if is_some self.now.written then 1 else 0) }
-        ensures phase { result.phase ≡ written_phase self.now.written }
+    fn written_byte(&self) -> Option<Loss>
+        ensures count { lost_count result ≡ (if is_some self.now.written then 1 else 0) }
+        ensures phase { lost_phase result ≡ written_phase self.now.written }
     {
-        match self.written {
-            None => Loss::default(),
-            Some(written) => Loss {
-                count: 1,
-                phase: written.phase.into(),
-            },
-        }
+        self.written.map(|written| Loss {
+            count: 1,
+            phase: written.phase,
+        })
     }
 
     // All that is held: received bytes, or else a written one.
-    fn held_bytes(&self) -> Loss
-        ensures count { result.count ≡ held_count (model self.now).received self.now.written }
-        ensures phase { result.phase ≡ held_phase self.now.latched (model self.now).received self.now.written }
+    fn held_bytes(&self) -> Option<Loss>
+        ensures count { lost_count result ≡ held_count (model self.now).received self.now.written }
+        ensures phase { lost_phase result ≡ held_phase self.now.latched (model self.now).received self.now.written }
     {
         if self.received.is_empty() {
             return self.written_byte();
         }
-        Loss {
+        Some(Loss {
             count: self.received.len(),
-            phase: self.latched.into(),
-        }
+            phase: self.latched,
+        })
     }
 
-    // Before all that is held goes, and ACK with it.
+    // Taken down before all that is held goes, and ACK with it.
     fn parting(&self) -> Parting
         ensures reaction { result.reaction ≡ dropping_ack self.now.flags.ack }
-        ensures count { result.lost.count ≡ held_count (model self.now).received self.now.written }
-        ensures phase { result.lost.phase ≡ held_phase self.now.latched (model self.now).received self.now.written }
+        ensures count { lost_count result.lost ≡ held_count (model self.now).received self.now.written }
+        ensures phase { lost_phase result.lost ≡ held_phase self.now.latched (model self.now).received self.now.written }
     {
         Parting {
             reaction: self.dropping_ack(),
@@ -87,9 +85,9 @@ impl Ncr5385e {
         }
     }
 
-    // And after it.
+    // Told when they are gone.
     fn part(&self, parting: Parting) -> Response
-        ensures { outcome (model self.now) result ≡ gives (model self.now) parting.reaction (loss parting.lost.count parting.lost.phase (model self.now)) }
+        ensures { outcome (model self.now) result ≡ gives (model self.now) parting.reaction (loss (lost_count parting.lost) (lost_phase parting.lost) (model self.now)) }
     {
         Response {
             reaction: parting.reaction,
@@ -115,8 +113,8 @@ impl Ncr5385e {
         self.written = None;
     }
 
-    // That no received byte is held is true of a chip at the end of a transfer and not of every chip, so it is no invariant,
-    // and each step that ends a transfer asks it.
+    // No plainer: what a step asks of the state and of received bytes is true of a chip at that step and not of every chip, so
+    // it is no invariant of the type.
     pub(crate) fn go_idle(&mut self)
         requires { self.old.received.count ≡ 0 }
         ensures { model self.new ≡ gone_idle (model self.old) }
@@ -178,11 +176,11 @@ impl Ncr5385e {
     }
 
     // A command is accepted: a written byte is lost, and Paused cleared.
-    fn accept(&mut self) -> Loss
+    fn accept(&mut self) -> Option<Loss>
         ensures after { model self.new ≡ accepted (model self.old) }
         ensures kept { self.new.received ≡ self.old.received }
-        ensures count { result.count ≡ (if is_some self.old.written then 1 else 0) }
-        ensures phase { result.phase ≡ written_phase self.old.written }
+        ensures count { lost_count result ≡ (if is_some self.old.written then 1 else 0) }
+        ensures phase { lost_phase result ≡ written_phase self.old.written }
     {
         let lost = self.written_byte();
         self.written = None;
@@ -192,7 +190,7 @@ impl Ncr5385e {
 
     // A command that the state has begins.
     fn begin(&mut self, next: State, value: u8) -> Response
-        requires { (self.old.received.count ≡ 0) × ((self.old.registers.interrupt ≡ 0) × ((is_transferring self.old.state ≡ false) × (self.old.flags.ack ≡ false))) }
+        requires { (self.old.registers.interrupt ≡ 0) × ((is_transferring self.old.state ≡ false) × (self.old.flags.ack ≡ false)) }
         ensures { outcome (model self.new) result ≡ started true next (model self.old) value }
     {
         let lost = self.accept();

@@ -51,6 +51,7 @@ impl Received {
         self.count = 0;
     }
 
+    #[tactic(auto, using(std::proofs::lemmas::List::take_more_set))]
     pub(crate) fn put(&mut self, byte: u8)
         requires { self.old.count < places }
         ensures { items self.new ≡ items self.old ++ (byte ∷ []) }
@@ -60,6 +61,7 @@ impl Received {
     }
 
     // Takes the oldest byte.
+    #[tactic(auto, using(crate::proofs::Fronts::take_first, crate::proofs::Fronts::take_shift))]
     pub(crate) fn take(&mut self) -> u8
         requires { 0 < self.old.count }
         ensures value { result ≡ slice_index (items self.old) 0 }

@@ -16,11 +16,9 @@ use bus::phase::Phase;
 use bus::wish::Wish;
 use registers::answer::{Direction, Reaction, Response};
 use registers::cause::Cause;
+use registers::command::Code;
 use registers::refusal::Refusal;
 use registers::state::State;
-
-// The code of Select with ATN.
-const SELECT_WITH_ATN: u8 = 0x08;
 
 // The bits of Control.
 const RESELECT_ENABLE: u8 = 0x02;
@@ -54,7 +52,8 @@ impl Ncr5385e {
                 }
             }
             (State::Arbitrating, Wish::Off) => {
-                self.flags.atn = self.registers.command & 31 == SELECT_WITH_ATN || self.flags.atn;
+                self.flags.atn = self.registers.command & 31 == Code::SelectWithAtn as u8
+                    || self.flags.atn;
                 self.state = State::Selecting;
                 self.done()
             }
@@ -176,9 +175,8 @@ impl Ncr5385e {
         }
     }
 
-    // Keeps an input byte; bad parity counts under Parity Enable. Each step of an input transfer asks that one is under way, which
-    // is true of a chip there and not of every chip; and byte and parity go along as the wish has them, since no step wants the
-    // two as one.
+    // Keeps an input byte; bad parity counts under Parity Enable. That an input is transferred is no invariant, as at `go_idle`;
+    // and byte and parity go along as the wish has them: no step wants the two as one.
     fn keep(&mut self, byte: u8, parity: Parity)
         requires { (self.old.received.count < places) × ((is_transferring self.old.state ≡ true) × (is_input self.old.latched ≡ true)) }
         ensures { model self.new ≡ kept (model self.old) byte parity }

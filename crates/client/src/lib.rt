@@ -11,6 +11,7 @@ use bus::address::StationAddress;
 use bus::station::Station;
 use registers::answer::Answer;
 use registers::call::{Call, CallRow, Ran, RunRefusal};
+use registers::command::Code;
 use registers::register::Register;
 use scsi_string::ScsiString;
 
@@ -26,7 +27,7 @@ const INTERRUPT: u8 = Register::Interrupt as u8;
 const COUNTER_LOW: u8 = Register::CounterLow as u8;
 
 // Select without ATN.
-const SELECT: u8 = 9;
+const SELECT: u8 = Code::Select as u8;
 
 // What a survey finds: the string, and every answer.
 #[derive(Drop)]

@@ -15,7 +15,7 @@ pub enum Cause {
     InvalidCommand = 0x40,
 }
 
-// A value of Interrupt that is none of the causes; zero is one, where nothing is pending.
+// A value of Interrupt that is none of the causes. Zero, with which nothing is pending, is such a value.
 #[derive(Clone, Copy, Debug, PartialEq, Eq, Error)]
 #[error("{0:02x}h is no cause of an interrupt")]
 pub struct NoSuchCause(pub u8);

@@ -2,6 +2,22 @@
 ghost use Rattle.std.specs.Prelude.{◌≡◌};
 ghost use Rattle.registers.specs.Commands.{command_of, is_select, is_transfer};
 
+// The codes that the chip has, as they are written to Command; Single Byte and DMA are bits beside them.
+#[derive(Clone, Copy, Debug, PartialEq, Eq)]
+pub enum Code {
+    ChipReset = 0x00,
+    Disconnect = 0x01,
+    Pause = 0x02,
+    SetAtn = 0x03,
+    MessageAccepted = 0x04,
+    ChipDisable = 0x05,
+    SelectWithAtn = 0x08,
+    Select = 0x09,
+    TransferInfo = 0x14,
+    TransferPad = 0x15,
+}
+
+// What a code orders.
 #[derive(Clone, Copy, Debug, PartialEq, Eq)]
 pub enum Command {
     ChipReset,

@@ -22,7 +22,7 @@ pub enum Refusal {
     #[error("there is no byte to read, or none is wanted")]
     NoByte,
     // Data is for DMA in a DMA transfer, and only then.
-    #[error("DMA is for DMA transfers, and they for nothing else")]
+    #[error("Data is moved by DMA in a DMA transfer, and only there")]
     Dma,
 }
 

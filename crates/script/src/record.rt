@@ -10,8 +10,8 @@ use bus::parity::Parity;
 use bus::phase::Phase;
 use bus::wish::Wish;
 
-// A row that can be played: it has a kind, a phase and a parity that exist. It keeps the row's numbers, since it is made anew
-// each time that the row is played.
+// A row that can be played: it has a kind, a phase and a parity that exist. It is no enum of its own, which would be no plainer:
+// the wish is the enum, and a record shows that a row has one.
 #[derive(Clone, Copy, Debug, PartialEq, Eq)]
 pub struct Record {
     row: Row,

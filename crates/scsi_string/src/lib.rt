@@ -194,7 +194,8 @@ impl<S: Station> ScsiString<S> {
         }
     }
 
-    // The station hears of it in each case by itself: heard of in one place behind them, a call takes a seventh more time.
+    // The station hears of it in each case by itself, for speed: heard of in one place behind the cases, a call took 164
+    // instructions, and 144 when each call had a function of its own.
     fn step(&mut self, call: Call) -> Answer
         ensures answer { result ≡ (step_of S.meaning call (values self.old)).answer }
         ensures after { values self.new ≡ (step_of S.meaning call (values self.old)).left }

@@ -284,3 +284,21 @@ fn reselections(rt: HostRuntime) {
         assert_eq!(rt; source_after(id), source);
     }
 }
+
+#[test]
+fn the_calls_are_what_make_makes(rt: HostRuntime) {
+    let rows = [row(0, 0, 0, 2), row(3, 4, 65, 0)];
+    let (mut named, mut made) = (over(&rows, 2), over(&rows, 2));
+    connect(&rt, &mut named);
+    connect(&rt, &mut made);
+    assert_eq!(rt; named.write(14, 1), made.make(Write(14, 1)));
+    assert_eq!(rt; named.write(1, 0x94), made.make(Write(1, 0x94)));
+    assert_eq!(rt; named.turn(), made.make(Turn));
+    assert_eq!(rt; named.tick(), made.make(Tick));
+    let byte = named.dma_read();
+    assert_eq!(rt; (byte, byte.value), (made.make(DmaRead), 65));
+    assert_eq!(rt; named.dma_write(1), made.make(DmaWrite(1)));
+    assert_eq!(rt; named.read(4), made.make(Read(4)));
+    assert_eq!(rt; named.reset(), made.make(Reset));
+    assert_eq!(rt; named.read(7), made.make(Read(7)));
+}
