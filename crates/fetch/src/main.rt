@@ -41,7 +41,7 @@ fn fetch<W: Write>(
     Ok(())
 }
 
-fn run(rt: &HostRuntime) -> Result<(), Failure> {
+fn run(rt: &HostRuntime) -> anyhow::Result<()> {
     let heap = rt.alloc();
     let order = order_of(heap, env::args(rt)?)?;
     let image = fs::read(rt, order.image.as_str())?;

@@ -15,7 +15,7 @@ use std::io::{BufWriter, Write};
 use std::process::ExitCode;
 
 // One thing to play after the other, in the order of the arguments.
-fn run(rt: &HostRuntime) -> Result<(), Failure> {
+fn run(rt: &HostRuntime) -> anyhow::Result<()> {
     let mut words = env::args(rt)?;
     let _ = words.next();
     let mut out = BufWriter::new(rt.alloc(), rt.stdout())?;

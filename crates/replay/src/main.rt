@@ -44,7 +44,7 @@ fn take<W: Write>(
             Ok(())
         }
         Ok(Some(line)) => session
-            .get_or_insert_with(|| Session::default())
+            .get_or_insert_with(Session::default)
             .take(rt, line),
         Err(unexpected) => Err(Fault::Unexpected(format!(in rt.alloc(); "{unexpected}")?)),
     }
@@ -55,7 +55,7 @@ fn sessions<W: Write>(rt: &HostRuntime, out: &mut W) -> Result<(), Failure> {
     let heap = rt.alloc();
     let mut session = None;
     let lines = BufReader::new(heap, rt.stdin())?.lines(heap);
-    for (number, line) in (1u64..).zip(lines.map(|line| Some(line)).chain(iter::once(None))) {
+    for (number, line) in (1u64..).zip(lines.map(Some).chain(iter::once(None))) {
         let taken = match line {
             Some(text) => take(rt, out, &mut session, text?.as_str()),
             None => finish(heap, out, &session),
@@ -66,11 +66,11 @@ fn sessions<W: Write>(rt: &HostRuntime, out: &mut W) -> Result<(), Failure> {
 }
 
 // What was answered before an error is printed all the same.
-fn run(rt: &HostRuntime) -> Result<(), Failure> {
+fn run(rt: &HostRuntime) -> anyhow::Result<()> {
     let mut out = BufWriter::new(rt.alloc(), rt.stdout())?;
     let result = sessions(rt, &mut out);
     out.flush()?;
-    result
+    Ok(result?)
 }
 
 fn main(rt: HostRuntime) -> ExitCode {
