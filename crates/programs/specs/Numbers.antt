@@ -1,5 +1,5 @@
 -- What number a word writes.
-use Rattle.std.specs.Prelude.{ℕ, List, Bool, false, cond, drop, codes, nat_eq, Option, Some, ◌<◌, ◌≤◌, ◌^◌}
+use Rattle.std.specs.Prelude.{ℕ, List, [], ◌∷◌, ◌≡◌, Bool, false, cond, drop, codes, nat_eq, Option, Some, ◌<◌, ◌≤◌, ◌^◌}
 use Rattle.std.specs.Borrow.{Bor}
 use Rattle.std.specs.declared.str.SplitWhitespace.{SplitWhitespace}
 use Rattle.std.specs.Str.Iter.{split_whitespace_steps}
@@ -28,3 +28,8 @@ WritesNext n s number t = (w : Bor (List ℕ)) × split_whitespace_steps s (Some
 -- the word writes no number up to the bound
 abbrev pub WritesNoneUpTo : Notation → ℕ → Bor (List ℕ) → Type 0
 WritesNoneUpTo n most w = (number : ℕ) → number ≤ most → ¬ (Writes n w.now (Some number))
+
+-- the next words write the numbers, one after the other
+abbrev pub WritesAll : Notation → SplitWhitespace → List ℕ → SplitWhitespace → Type 0
+WritesAll n s [] t = s ≡ t
+WritesAll n s (number ∷ numbers) t = (u : SplitWhitespace) × WritesNext n s number u × WritesAll n u numbers t

@@ -1,12 +1,13 @@
 // The words of a line, read one after the other, and numbers up to a bound. `#` begins a comment.
-ghost use Rattle.std.specs.Prelude.{◌≡◌, ◌==◌, ◌≤◌, ◌↔◌, [], None, Some, IsSome, IsNone, IfSome, IfOk, IfErr, OnOk};
+ghost use Rattle.std.specs.Prelude.{◌≡◌, ◌==◌, ◌≤◌, ◌↔◌, ◌∷◌, [], None, Some, IsSome, IsNone, IfSome, IfOk, IfErr, OnOk};
 ghost use Rattle.std.specs.List.{before_first};
 ghost use Rattle.std.specs.Str.{trim};
 ghost use Rattle.std.specs.Str.Iter.{split_whitespace_rest, split_whitespace_steps};
-ghost use Rattle.programs.specs.Numbers.{DigitsWrite, Writes, WritesNext, WritesNoneUpTo};
-ghost use Rattle.programs.specs.Texts.{expected_text, unexpected_text};
+ghost use Rattle.programs.specs.Numbers.{DigitsWrite, Writes, WritesNext, WritesNoneUpTo, WritesAll};
+ghost use Rattle.programs.specs.Texts.{expected_text, unexpected_text, TellsNext};
 ghost use Rattle.programs.specs.declared.fields.Expected.TheVariants.{Words, Number};
 
+use script::row::Row;
 use std::error::Error;
 use std::fmt;
 use std::str::SplitWhitespace;
@@ -30,7 +31,11 @@ pub struct Style {
 #[derive(Clone, Copy, Debug)]
 pub enum Expected {
     Words(&'static str),
-    Number(&'static str, &'static str, u32),
+    Number {
+        name: &'static str,
+        range: &'static str,
+        most: u32,
+    },
 }
 
 // What was expected, and what stood there; no word is the end of the line.
@@ -46,7 +51,7 @@ impl fmt::Display for Expected {
     fn fmt<W: fmt::Write>(&self, f: &mut fmt::Formatter<W>) -> fmt::Result {
         match *self {
             Expected::Words(words) => f.write_str(words),
-            Expected::Number(name, range, most) => write!(f, "{name}, {range} {most}"),
+            Expected::Number { name, range, most } => write!(f, "{name}, {range} {most}"),
         }
     }
 }
@@ -134,7 +139,7 @@ impl<'a> Fields<'a> {
     pub fn number(&mut self, name: &'static str, most: u32) -> Result<u32, Unexpected<'a>>
         ensures bound { IfOk result (λ n. n ≤ most) }
         ensures ok { IfOk result (λ n. WritesNext self.old.style.notation self.old.words n self.new.words) }
-        ensures err { IfErr result (λ e. (e.expected ≡ Number name.entry self.old.style.range most) × split_whitespace_steps self.old.words e.found self.new.words) }
+        ensures err { IfErr result (TellsNext (Number name.entry self.old.style.range most) self.old.words self.new.words) }
         ensures refused { IfErr result (λ e. IfSome e.found (WritesNoneUpTo self.old.style.notation most)) }
         ensures style { self.new.style ≡ self.old.style }
     {
@@ -144,7 +149,7 @@ impl<'a> Fields<'a> {
             .and_then(|word| notation.number(word))
             .filter(|number| *number <= most)
             .ok_or(Unexpected {
-                expected: Expected::Number(name, range, most),
+                expected: Expected::Number { name, range, most },
                 found,
             })
     }
@@ -152,11 +157,28 @@ impl<'a> Fields<'a> {
     // The next word, which is a number up to 255.
     pub fn byte(&mut self, name: &'static str) -> Result<u8, Unexpected<'a>>
         ensures ok { IfOk result (λ n. WritesNext self.old.style.notation self.old.words n self.new.words) }
-        ensures err { IfErr result (λ e. (e.expected ≡ Number name.entry self.old.style.range 255) × split_whitespace_steps self.old.words e.found self.new.words) }
+        ensures err { IfErr result (TellsNext (Number name.entry self.old.style.range 255) self.old.words self.new.words) }
+        ensures refused { IfErr result (λ e. IfSome e.found (WritesNoneUpTo self.old.style.notation 255)) }
         ensures style { self.new.style ≡ self.old.style }
     {
         let number = self.number(name, 255)?;
         Ok(number as u8)
+    }
+
+    // The next five words, which are the numbers of a row of a script; each is told by its name.
+    pub fn row(&mut self, names: [&'static str; 5]) -> Result<Row, Unexpected<'a>>
+        ensures ok { IfOk result (λ r. WritesAll self.old.style.notation self.old.words (r.kind ∷ r.phase ∷ r.byte ∷ r.parity ∷ r.next ∷ []) self.new.words) }
+        ensures refused { IfErr result (λ e. IfSome e.found (WritesNoneUpTo self.old.style.notation 255)) }
+        ensures style { self.new.style ≡ self.old.style }
+    {
+        let [kind, phase, byte, parity, next] = names;
+        Ok(Row {
+            kind: self.byte(kind)?,
+            phase: self.byte(phase)?,
+            byte: self.byte(byte)?,
+            parity: self.byte(parity)?,
+            next: self.number(next, u32::MAX)?,
+        })
     }
 
     // That there is no word left.
