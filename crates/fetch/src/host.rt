@@ -2,11 +2,12 @@
 use super::failure::Failure;
 use super::order::{Request, Way};
 use bus::message::Message;
-use bus::status::Status;
 use bus::phase::Phase;
 use bus::station::Station;
+use bus::status::Status;
 use registers::answer::{Answer, CONNECTED, INT};
 use registers::cause::Cause;
+use registers::command::Code;
 use registers::register::Register;
 use scsi_string::ScsiString;
 use std::alloc::Global;
@@ -18,11 +19,11 @@ use std::{array, io};
 pub const HOST: u8 = 7;
 
 // Commands, and what can be added to them.
-const MESSAGE_ACCEPTED: u8 = 0x04;
+const MESSAGE_ACCEPTED: u8 = Code::MessageAccepted as u8;
 
-const SELECT_WITHOUT_ATN: u8 = 0x09;
+const SELECT_WITHOUT_ATN: u8 = Code::Select as u8;
 
-const TRANSFER_INFO: u8 = 0x14;
+const TRANSFER_INFO: u8 = Code::TransferInfo as u8;
 
 const SINGLE_BYTE: u8 = 0x40;
 

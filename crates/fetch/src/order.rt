@@ -21,7 +21,6 @@ pub struct Request {
     pub address: u8,
     pub block: u32,
     pub count: u8,
-    ghost block_of_read: { block < 2097152 },
 }
 
 #[derive(Drop)]
@@ -42,12 +41,12 @@ impl fmt::Display for Way {
 }
 
 impl Request {
-    // The command READ.
+    // The command READ, which has five bits for the block's high part.
     pub fn command(self) -> [u8; 6]
-        ensures { result ≡ 8 ∷ self.block / 65536 ∷ self.block / 256 % 256 ∷ self.block % 256 ∷ self.count ∷ 0 ∷ [] }
+        ensures { result ≡ 8 ∷ self.block / 65536 % 32 ∷ self.block / 256 % 256 ∷ self.block % 256 ∷ self.count ∷ 0 ∷ [] }
     {
         let [_, high, middle, low] = self.block.to_be_bytes();
-        [0x08, high, middle, low, self.count, 0]
+        [0x08, high % 32, middle, low, self.count, 0]
     }
 
     // How many bytes the blocks have.

@@ -1,15 +1,15 @@
 // A drive over a disc image, under a breaker: one whole exchange, from choosing to Off.
-ghost use Rattle.std.specs.Prelude.{◌≡◌, ◌≤◌, ◌∷◌, IfSome};
+ghost use Rattle.std.specs.Prelude.{◌≡◌, ◌<◌, ◌≤◌, ◌↔◌, ◌∷◌, length, IsNone, IfSome};
 ghost use Rattle.std.specs.Vec.Iter.{into_iter_items, into_iter_len};
 
 use super::failure::Failure;
 use breaker::Breaker;
 use bus::address::StationAddress;
 use bus::message::Message;
-use bus::status::Status;
 use bus::patient::attend;
 use bus::phase::Phase;
 use bus::station::Station;
+use bus::status::Status;
 use bus::wish::Wish;
 use drive::drive::Drive;
 use drive::image::Image;
@@ -41,6 +41,7 @@ impl Exchange {
     // The next three words.
     pub fn of_words(words: &mut Args) -> Option<Self>
         ensures some { IfSome result (λ e. into_iter_items words.old ≡ e.image ∷ e.command ∷ e.after ∷ into_iter_items words.new) }
+        ensures none { IsNone result ↔ (length (into_iter_items words.old) < 3) }
         ensures fewer { into_iter_len words.new ≤ into_iter_len words.old }
     {
         Some(Exchange {

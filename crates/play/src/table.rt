@@ -9,20 +9,18 @@ const STYLE: Style = Style {
     range: "a number up to",
 };
 
+const NAMES: [&'static str; 5] = [
+    "the kind",
+    "the phase",
+    "the byte",
+    "the parity",
+    "the next",
+];
+
 fn row_of<'a>(fields: &mut Fields<'a>) -> Result<Row, Unexpected<'a>> {
-    let kind = fields.byte("the kind")?;
-    let phase = fields.byte("the phase")?;
-    let byte = fields.byte("the byte")?;
-    let parity = fields.byte("the parity")?;
-    let next = fields.number("the next", u32::MAX)?;
+    let row = fields.row(NAMES)?;
     fields.end()?;
-    Ok(Row {
-        kind,
-        phase,
-        byte,
-        parity,
-        next,
-    })
+    Ok(row)
 }
 
 // The rows of a text, or the first line that is none.

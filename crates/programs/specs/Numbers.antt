@@ -33,3 +33,7 @@ WritesNoneUpTo n most w = (number : ℕ) → number ≤ most → ¬ (Writes n w.
 abbrev pub WritesAll : Notation → SplitWhitespace → List ℕ → SplitWhitespace → Type 0
 WritesAll n s [] t = s ≡ t
 WritesAll n s (number ∷ numbers) t = (u : SplitWhitespace) × WritesNext n s number u × WritesAll n u numbers t
+
+-- the last word that was taken is found, or none was left
+abbrev pub FindsLast : Option (Bor (List ℕ)) → SplitWhitespace → Type 0
+FindsLast found t = (s : SplitWhitespace) × split_whitespace_steps s found t

@@ -3,7 +3,7 @@ ghost use Rattle.std.specs.Prelude.{◌≡◌, ◌==◌, ◌≤◌, ◌↔◌, �
 ghost use Rattle.std.specs.List.{before_first};
 ghost use Rattle.std.specs.Str.{trim};
 ghost use Rattle.std.specs.Str.Iter.{split_whitespace_rest, split_whitespace_steps};
-ghost use Rattle.programs.specs.Numbers.{DigitsWrite, Writes, WritesNext, WritesNoneUpTo, WritesAll};
+ghost use Rattle.programs.specs.Numbers.{DigitsWrite, Writes, WritesNext, WritesNoneUpTo, WritesAll, FindsLast};
 ghost use Rattle.programs.specs.Texts.{expected_text, unexpected_text, TellsNext};
 ghost use Rattle.programs.specs.declared.fields.Expected.TheVariants.{Words, Number};
 
@@ -168,6 +168,7 @@ impl<'a> Fields<'a> {
     // The next five words, which are the numbers of a row of a script; each is told by its name.
     pub fn row(&mut self, names: [&'static str; 5]) -> Result<Row, Unexpected<'a>>
         ensures ok { IfOk result (λ r. WritesAll self.old.style.notation self.old.words (r.kind ∷ r.phase ∷ r.byte ∷ r.parity ∷ r.next ∷ []) self.new.words) }
+        ensures err { IfErr result (λ e. FindsLast e.found self.new.words) }
         ensures refused { IfErr result (λ e. IfSome e.found (WritesNoneUpTo self.old.style.notation 255)) }
         ensures style { self.new.style ≡ self.old.style }
     {

@@ -29,6 +29,8 @@ const STYLE: Style = Style {
 
 const WORDS: &'static str = "session, chip, script, row, drive, breaker or call";
 
+const ROW: [&'static str; 5] = ["a kind", "a phase", "a byte", "a parity", "a next"];
+
 const IMAGES: &'static str = "file or pattern";
 
 fn unexpected<'a>(expected: &'static str, word: &'a str) -> Unexpected<'a> {
@@ -36,22 +38,6 @@ fn unexpected<'a>(expected: &'static str, word: &'a str) -> Unexpected<'a> {
         expected: Expected::Words(expected),
         found: Some(word),
     }
-}
-
-// As play reads a row of a script; but here its numbers have other names, and a word stands before them.
-fn row<'a>(fields: &mut Fields<'a>) -> Result<Row, Unexpected<'a>> {
-    let kind = fields.byte("a kind")?;
-    let phase = fields.byte("a phase")?;
-    let byte = fields.byte("a byte")?;
-    let parity = fields.byte("a parity")?;
-    let next = fields.number("a next", u32::MAX)?;
-    Ok(Row {
-        kind,
-        phase,
-        byte,
-        parity,
-        next,
-    })
 }
 
 fn drive<'a>(fields: &mut Fields<'a>) -> Result<Line<'a>, Unexpected<'a>> {
@@ -89,7 +75,7 @@ pub fn line_of(text: &str) -> Result<Option<Line<'_>>, Unexpected<'_>> {
         "session" => Line::Session,
         "chip" => Line::Chip(fields.byte("the chip's address")?),
         "script" => Line::Script(fields.byte("an address")?),
-        "row" => Line::Row(row(&mut fields)?),
+        "row" => Line::Row(fields.row(ROW)?),
         "drive" => drive(&mut fields)?,
         "breaker" => Line::Breaker(breaker(&mut fields)?),
         "call" => Line::Call(call(&mut fields)?),

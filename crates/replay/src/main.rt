@@ -43,9 +43,7 @@ fn take<W: Write>(
             *session = Some(Session::default());
             Ok(())
         }
-        Ok(Some(line)) => session
-            .get_or_insert_with(Session::default)
-            .take(rt, line),
+        Ok(Some(line)) => session.get_or_insert_with(Session::default).take(rt, line),
         Err(unexpected) => Err(Fault::Unexpected(format!(in rt.alloc(); "{unexpected}")?)),
     }
 }
