@@ -1,3 +1,4 @@
 pub mod Breakers
 pub mod BreakerLawful
 pub mod Breaks
+pub mod Stages

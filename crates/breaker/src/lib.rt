@@ -5,12 +5,14 @@ ghost use Rattle.std.specs.Prelude.{◌≡◌};
 ghost use Rattle.breaker.specs.Breakers.{is_due, standing, passed_on, breaker_meaning, progress_of, starting, Made};
 ghost use Rattle.breaker.specs.Breaks.{ChangesNothing, Breaks};
 ghost use Rattle.breaker.specs.BreakerLawful.{breaker_lawful};
+ghost use Rattle.breaker.specs.Stages.{StageNumber, StageOf};
 
 use bus::address::StationAddress;
 use bus::message::Message;
 use bus::parity::Parity;
 use bus::station::{Station, Tally};
 use bus::wish::Wish;
+use thiserror::Error;
 
 // How far a break has come.
 #[derive(Clone, Copy, Debug, PartialEq, Eq)]
@@ -27,6 +29,37 @@ pub enum Stage {
     Returning,
     // It says who it is.
     Identifying,
+}
+
+// A number that no stage has: there are six.
+#[derive(Clone, Copy, Debug, PartialEq, Eq, Error)]
+#[error("there is no stage {0} of a break")]
+pub struct NoSuchStage(pub u8);
+
+impl From<Stage> for u8 {
+    ghost from_gives = { StageNumber };
+
+    fn from(stage: Stage) -> u8 {
+        stage as u8
+    }
+}
+
+impl TryFrom<u8> for Stage {
+    type Error = NoSuchStage;
+
+    ghost try_from_gives = { StageOf };
+
+    fn try_from(number: u8) -> Result<Stage, NoSuchStage> {
+        match number {
+            0 => Ok(Stage::Through),
+            1 => Ok(Stage::Saving),
+            2 => Ok(Stage::Disconnecting),
+            3 => Ok(Stage::Leaving),
+            4 => Ok(Stage::Returning),
+            5 => Ok(Stage::Identifying),
+            _ => Err(NoSuchStage(number)),
+        }
+    }
 }
 
 // How far a breaker is, without the station below.
