@@ -1,15 +1,16 @@
 -- Stations with the same numbers are at the same stage, place or break.
-use Rattle.std.proofs.Common.{◌≡◌, ℕ, ◌-◌, cond, eqb, List, get_or, sym, refl, ap, ◌∙◌, arith}
+use Rattle.std.proofs.Common.{◌≡◌, ℕ, ◌-◌, cond, eqb, List, get_or, unwrap_or, sym, refl, ap, ◌∙◌, arith}
 use Rattle.std.proofs.lemmas.List.{get_or_default}
 use Rattle.drive.specs.declared.drive.Stage.{Stage}
 use Rattle.drive.specs.declared.drive.Stage.TheVariants.{Idle, MessageOut, Command, Reply, Complete, Leaving}
 use Rattle.breaker.specs.declared.Stage.{Stage as Break}
 use Rattle.breaker.specs.declared.Stage.TheVariants.{Through, Saving, Disconnecting, Leaving as LeavingBreak, Returning, Identifying}
+use Rattle.breaker.specs.Stages.{stage_number, stage_numbered}
 use Rattle.script.specs.declared.row.Row.{Row}
 use Rattle.script.specs.declared.script.Place.{Place}
 use Rattle.script.specs.declared.script.Place.TheVariants.{At, End, Leaving as LeavingScript}
 use Rattle.script.specs.Scripts.{no_row}
-use Rattle.saved.specs.Stations.{drive_numbers, break_number, script_numbers, InTable}
+use Rattle.saved.specs.Stations.{drive_numbers, script_numbers, InTable}
 use Rattle.saved.specs.declared.numbers.SavedDrive.{SavedDrive}
 use Rattle.saved.specs.declared.numbers.SavedScript.{SavedScript}
 
@@ -30,9 +31,9 @@ pub one_stage : (x y : Stage) → drive_numbers x ≡ drive_numbers y → x ≡ 
 one_stage x y e = sym (stage_round x) ∙ ap stage_in e ∙ stage_round y
 
 abbrev break_in : ℕ → Break
-break_in n = cond (eqb n 0) Through (cond (eqb n 1) Saving (cond (eqb n 2) Disconnecting (cond (eqb n 3) LeavingBreak (cond (eqb n 4) Returning Identifying))))
+break_in n = unwrap_or (stage_numbered n) Through
 
-break_round : (x : Break) → break_in (break_number x) ≡ x
+break_round : (x : Break) → break_in (stage_number x) ≡ x
 break_round Through = refl
 break_round Saving = refl
 break_round Disconnecting = refl
@@ -40,7 +41,7 @@ break_round LeavingBreak = refl
 break_round Returning = refl
 break_round Identifying = refl
 
-pub one_break : (x y : Break) → break_number x ≡ break_number y → x ≡ y
+pub one_break : (x y : Break) → stage_number x ≡ stage_number y → x ≡ y
 one_break x y e = sym (break_round x) ∙ ap break_in e ∙ break_round y
 
 abbrev place_in : List Row → SavedScript → Place

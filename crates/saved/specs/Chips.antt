@@ -1,6 +1,5 @@
 -- The numbers of a chip, and the chip of such numbers.
-use Rattle.std.specs.Prelude.{◌≡◌, ℕ, ◌<◌, Bool, cond, not, ◌&&◌, ◌||◌, List, length, Some, None, Ok, Err, Option, Result, MatchResult, ◌==◌, ◌≢◌, nat_le, slice_index}
-use Rattle.bus.specs.declared.address.StationAddress.{StationAddress}
+use Rattle.std.specs.Prelude.{◌≡◌, ℕ, Bool, cond, not, ◌&&◌, ◌||◌, List, length, Some, None, Ok, Err, Option, Result, ◌==◌, ◌≢◌, nat_le, slice_index}
 use Rattle.bus.specs.Phases.{phase_number}
 use Rattle.registers.specs.States.{state_number}
 use Rattle.chip.specs.declared.chip.Flags.{Flags}
@@ -18,10 +17,6 @@ use Rattle.saved.specs.declared.numbers.SavedWritten.{SavedWritten}
 abbrev pub Unpacks : {X N E : Type 0} → (X → N) → N → Result X E → Type 0
 Unpacks numbers saved (Ok x) = numbers x ≡ saved
 Unpacks numbers saved (Err e) = (x : _) → numbers x ≢ saved
-
--- the address of a number, or an error where it is above 7
-abbrev pub AddressOf : {E : Type 0} → ℕ → Result StationAddress E → Type 0
-AddressOf n r = MatchResult r (λ a. a.number ≡ n) (λ e. 7 < n)
 
 abbrev pub flag_number : Bool → ℕ
 flag_number b = cond b 1 0

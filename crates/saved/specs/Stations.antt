@@ -3,8 +3,7 @@ use Rattle.std.specs.Prelude.{◌≡◌, ℕ, List, [], ◌∷◌, Ok, Err, Resu
 use Rattle.drive.specs.declared.drive.Stage.{Stage}
 use Rattle.drive.specs.declared.drive.Stage.TheVariants.{Idle, MessageOut, Command, Reply, Complete, Leaving}
 use Rattle.breaker.specs.declared.Progress.{Progress}
-use Rattle.breaker.specs.declared.Stage.{Stage as Break}
-use Rattle.breaker.specs.declared.Stage.TheVariants.{Through, Saving, Disconnecting, Leaving as LeavingBreak, Returning, Identifying}
+use Rattle.breaker.specs.Stages.{stage_number}
 use Rattle.chain.specs.Chain.{Stands}
 use Rattle.script.specs.declared.row.Row.{Row}
 use Rattle.script.specs.declared.script.Place.{Place}
@@ -29,16 +28,8 @@ drive_numbers (Reply s) = record { first = s.reply.first; sent = s.sent; count =
 drive_numbers Complete = plain 4
 drive_numbers Leaving = plain 5
 
-abbrev pub break_number : Break → ℕ
-break_number Through = 0
-break_number Saving = 1
-break_number Disconnecting = 2
-break_number LeavingBreak = 3
-break_number Returning = 4
-break_number Identifying = 5
-
 abbrev pub progress_numbers : Progress → SavedBreaker
-progress_numbers p = record { after = p.after; passed = p.passed; host = p.host.number; stage = break_number p.stage }
+progress_numbers p = record { after = p.after; passed = p.passed; host = p.host.number; stage = stage_number p.stage }
 
 abbrev pub script_numbers : Place → SavedScript
 script_numbers (At n r) = record { number = n; place = 0 }

@@ -1,11 +1,13 @@
 // The numbers of a chip, and the chip of such numbers.
 ghost use Rattle.std.specs.Prelude.{◌≡◌};
+ghost use Rattle.bus.specs.Phases.{phase_number};
 ghost use Rattle.chip.specs.Model.{items};
+ghost use Rattle.registers.specs.States.{state_number};
 ghost use Rattle.saved.specs.Chips.{flag_number, flag_numbers, received_numbers, received_in, written_numbers, chip_in, together, Unpacks};
 
-use super::addresses::address_of;
 use super::numbers::{SavedChip, SavedFlags, SavedReceived, SavedWritten};
 use super::refusal::NotSaved;
+use bus::address::StationAddress;
 use bus::phase::Phase;
 use chip::chip::{Flags, Ncr5385e, Received, Written};
 use registers::state::State;
@@ -86,7 +88,7 @@ fn flag_of(number: u8) -> Result<bool, NotSaved>
     match number {
         0 => Ok(false),
         1 => Ok(true),
-        _ => Err(NotSaved::Flag),
+        _ => Err(NotSaved),
     }
 }
 
@@ -116,7 +118,7 @@ impl TryFrom<SavedReceived> for Received {
 
     fn try_from(saved: SavedReceived) -> Result<Received, NotSaved> {
         if saved.count > 2 {
-            return Err(NotSaved::Count);
+            return Err(NotSaved);
         }
         let received = Received {
             bytes: [saved.first, saved.second],
@@ -126,7 +128,7 @@ impl TryFrom<SavedReceived> for Received {
         if SavedReceived::from(received) == saved {
             Ok(received)
         } else {
-            Err(NotSaved::Unused)
+            Err(NotSaved)
         }
     }
 }
@@ -139,47 +141,45 @@ impl TryFrom<SavedWritten> for Option<Written> {
     fn try_from(saved: SavedWritten) -> Result<Option<Written>, NotSaved> {
         match saved.count {
             0 if saved == SavedWritten::default() => Ok(None),
-            0 => Err(NotSaved::Unused),
             1 => Ok(Some(Written {
                 byte: saved.byte,
                 phase: Phase::try_from(saved.phase)?,
             })),
-            _ => Err(NotSaved::Count),
+            _ => Err(NotSaved),
         }
     }
 }
 
-// What a chip always keeps, by its numbers: bytes are received only in a transfer and of an input, and then none is written;
-// a transfer goes on only while no interrupt is pending; ACK is on only in a transfer or waiting.
-fn holds_together(saved: &SavedChip) -> bool
+// What a chip in this state, with this phase, always keeps: bytes are received only in a transfer and of an input, and then
+// none is written; a transfer goes on only while no interrupt is pending; ACK is on only in a transfer or waiting.
+fn holds_together(state: State, latched: Phase, saved: &SavedChip) -> bool
+    requires state { state_number state ≡ saved.now.state }
+    requires latched { phase_number latched ≡ saved.now.latched }
     ensures { result ≡ together saved.now }
 {
-    let transfers = saved.state == u8::from(State::Transferring);
-    let inward = saved.latched >= u8::from(Phase::DataIn);
+    let transfers = state.is_transferring();
+    let inward = latched.is_input();
     let none = saved.received.count == 0;
     (transfers || none)
         && (inward || none)
         && (!transfers || !inward || saved.written.count == 0)
         && (!transfers || saved.registers.interrupt == 0)
-        && (saved.flags.ack == 0 || transfers || saved.state == u8::from(State::Waiting))
+        && (saved.flags.ack == 0 || transfers || state == State::Waiting)
 }
 
-// The chip of these numbers, or why no chip has them.
+// The chip of these numbers, or an error where no chip has them.
 impl TryFrom<SavedChip> for Ncr5385e {
     type Error = NotSaved;
 
     ghost try_from_gives = { Unpacks chip_in };
 
     fn try_from(saved: SavedChip) -> Result<Ncr5385e, NotSaved> {
-        let id = address_of(saved.id)?;
-        if saved.registers.counter >= COUNTER_END {
-            return Err(NotSaved::Count);
-        }
-        if !holds_together(&saved) {
-            return Err(NotSaved::Apart);
-        }
+        let id = StationAddress::try_from(saved.id)?;
         let state = State::try_from(saved.state)?;
         let latched = Phase::try_from(saved.latched)?;
+        if saved.registers.counter >= COUNTER_END || !holds_together(state, latched, &saved) {
+            return Err(NotSaved);
+        }
         let flags = Flags::try_from(saved.flags)?;
         let received = Received::try_from(saved.received)?;
         let written = Option::<Written>::try_from(saved.written)?;

@@ -1,25 +1,35 @@
-// Why numbers are those of nothing.
+// The answer where numbers are those of nothing.
+use breaker::NoSuchStage;
+use bus::address::NoSuchAddress;
 use bus::phase::NoSuchPhase;
 use registers::state::NoSuchState;
 use thiserror::Error;
 
+// One value, since the clauses say when it comes: where no value has the numbers.
 #[derive(Clone, Copy, Debug, PartialEq, Eq, Error)]
-pub enum NotSaved {
-    #[error(transparent)]
-    State(#[from] NoSuchState),
-    #[error(transparent)]
-    Phase(#[from] NoSuchPhase),
-    #[error("an address is above 7")]
-    Address,
-    #[error("a flag is neither 0 nor 1")]
-    Flag,
-    #[error("a count is more than there can be")]
-    Count,
-    #[error("there is no stage or place of that number")]
-    Stage,
-    #[error("what is not in use is not zero")]
-    Unused,
-    // A chip holds such values, but never all of them at once.
-    #[error("the numbers of the chip do not go together")]
-    Apart,
+#[error("no value has these numbers")]
+pub struct NotSaved;
+
+impl From<NoSuchAddress> for NotSaved {
+    fn from(_none: NoSuchAddress) -> NotSaved {
+        NotSaved
+    }
+}
+
+impl From<NoSuchPhase> for NotSaved {
+    fn from(_none: NoSuchPhase) -> NotSaved {
+        NotSaved
+    }
+}
+
+impl From<NoSuchState> for NotSaved {
+    fn from(_none: NoSuchState) -> NotSaved {
+        NotSaved
+    }
+}
+
+impl From<NoSuchStage> for NotSaved {
+    fn from(_none: NoSuchStage) -> NotSaved {
+        NotSaved
+    }
 }

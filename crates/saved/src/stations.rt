@@ -1,12 +1,12 @@
 // The numbers of drives, scripts and breakers, and what stands at such numbers.
 ghost use Rattle.std.specs.Prelude.{◌≡◌};
 ghost use Rattle.saved.specs.Chips.{Unpacks};
-ghost use Rattle.saved.specs.Stations.{plain, drive_numbers, script_numbers, Places, break_number, progress_numbers};
+ghost use Rattle.saved.specs.Stations.{plain, drive_numbers, script_numbers, Places, progress_numbers};
 
-use super::addresses::address_of;
 use super::numbers::{SavedBreaker, SavedDrive, SavedScript};
 use super::refusal::NotSaved;
 use breaker::{Progress, Stage as Break};
+use bus::address::StationAddress;
 use drive::command::{CommandBlock, Reply};
 use drive::drive::Stage;
 use drive::sending::Sending;
@@ -57,7 +57,7 @@ impl From<Stage> for SavedDrive {
     }
 }
 
-// How far a drive with these numbers is, or why no drive has them.
+// How far a drive with these numbers is, or an error where no drive has them.
 impl TryFrom<SavedDrive> for Stage {
     type Error = NotSaved;
 
@@ -81,13 +81,13 @@ impl TryFrom<SavedDrive> for Stage {
             }),
             4 => Stage::Complete,
             5 => Stage::Leaving,
-            _ => return Err(NotSaved::Stage),
+            _ => return Err(NotSaved),
         };
         // What is not in use is zero: these are the numbers of that very stage.
         if SavedDrive::from(stage) == saved {
             Ok(stage)
         } else {
-            Err(NotSaved::Unused)
+            Err(NotSaved)
         }
     }
 }
@@ -114,33 +114,17 @@ impl From<Place> for SavedScript {
     }
 }
 
-// Where a script over these rows stands with these numbers, or why none does. A function, since it needs the rows too.
+// Where a script over these rows stands with these numbers, or an error where none does. A function, since it needs the
+// rows too.
 pub fn place_of(saved: SavedScript, rows: &[Row]) -> Result<Place, NotSaved>
     ensures { Places rows.now saved result }
 {
     let number = saved.number as usize;
     match saved.place {
         0 if number >= 1 && number <= rows.len() => Ok(Place::At(number, rows[number - 1])),
-        0 => Err(NotSaved::Count),
         1 if number == 0 => Ok(Place::End),
         2 if number == 0 => Ok(Place::Leaving),
-        1 | 2 => Err(NotSaved::Unused),
-        _ => Err(NotSaved::Stage),
-    }
-}
-
-// A function, since neither a byte nor the breaker's stage is a type of ours.
-fn break_numbered(number: u8) -> Result<Break, NotSaved>
-    ensures { Unpacks break_number number result }
-{
-    match number {
-        0 => Ok(Break::Through),
-        1 => Ok(Break::Saving),
-        2 => Ok(Break::Disconnecting),
-        3 => Ok(Break::Leaving),
-        4 => Ok(Break::Returning),
-        5 => Ok(Break::Identifying),
-        _ => Err(NotSaved::Stage),
+        _ => Err(NotSaved),
     }
 }
 
@@ -152,12 +136,12 @@ impl From<Progress> for SavedBreaker {
             after: progress.after,
             passed: progress.passed,
             host: progress.host.number(),
-            stage: progress.stage as u8,
+            stage: u8::from(progress.stage),
         }
     }
 }
 
-// How far a breaker with these numbers is, or why no breaker has them.
+// How far a breaker with these numbers is, or an error where no breaker has them.
 impl TryFrom<SavedBreaker> for Progress {
     type Error = NotSaved;
 
@@ -166,9 +150,9 @@ impl TryFrom<SavedBreaker> for Progress {
     fn try_from(saved: SavedBreaker) -> Result<Progress, NotSaved> {
         Ok(Progress {
             after: saved.after,
-            host: address_of(saved.host)?,
+            host: StationAddress::try_from(saved.host)?,
             passed: saved.passed,
-            stage: break_numbered(saved.stage)?,
+            stage: Break::try_from(saved.stage)?,
         })
     }
 }
