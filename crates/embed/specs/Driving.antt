@@ -1,4 +1,4 @@
--- What is seen of a drive, and what holds of a drive that is kept as numbers.
+-- Proofs: what holds of a drive that is kept as numbers, by what is seen of it.
 use Rattle.std.specs.Prelude.{ℕ, cond, ◌&&◌, List, ◌==◌, refl}
 use Rattle.std.proofs.Common.{sym, ◌∙◌}
 use Rattle.bus.specs.Meaning.{Meaning}

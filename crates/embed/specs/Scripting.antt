@@ -1,4 +1,4 @@
--- What is seen of a script, and what holds of a script that is kept as numbers.
+-- Proofs: what holds of a script that is kept as numbers, by what is seen of it.
 use Rattle.std.specs.Prelude.{◌≡◌, Bool, true, false, cond, ◌&&◌, List, ◌==◌, refl}
 use Rattle.std.proofs.Common.{sym, ◌∙◌, subst}
 use Rattle.bus.specs.Meaning.{Meaning}

@@ -137,4 +137,4 @@ module _ {S : Type 0} (m : Meaning S) (Is : SavedString → Line S → Type 0) w
   abbrev pub Served : SavedString → List Row → List Answer → SavedString → List Answer → Result Ran ServeRefusal → Type 0
   Served s calls room s' room' (Ok t) = Serves s calls room s' room' (Ok t)
   Served s calls room s' room' (Err (Run e)) = Serves s calls room s' room' (Err e)
-  Served s calls room s' room' (Err (NoSuchString e)) = Refuses s room s' room'
+  Served s calls room s' room' (Err NoSuchString) = Refuses s room s' room'

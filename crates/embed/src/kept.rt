@@ -10,6 +10,8 @@ ghost use Rattle.embed.specs.Scripting.{rows_of, place_at, script_seen, script_l
 ghost use Rattle.embed.specs.declared.state.Kind.{Kind};
 ghost use Rattle.embed.specs.declared.state.SavedString.{SavedString};
 ghost use Rattle.saved.specs.Stations.{InTable};
+ghost use Rattle.saved.specs.declared.numbers.SavedDrive.{SavedDrive};
+ghost use Rattle.saved.specs.declared.numbers.SavedScript.{SavedScript};
 ghost use Rattle.script.specs.Scripts.{table};
 ghost use Rattle.script.specs.declared.row.Row.{Row};
 
@@ -35,11 +37,13 @@ pub trait Kept: Station {
 
     ghost stands: { Self → Self.Mark };
 
-    // What it goes over, and that of what is lent.
+    // Bytes or rows, as a list.
     ghost Over: { Type 0 };
 
+    // Those that a station works on.
     ghost lent_to: { Self → Over };
 
+    // Those that the host lends.
     ghost lent_as: { Self.Lent → Over };
 
     // The marks that there can be over it.
@@ -48,10 +52,15 @@ pub trait Kept: Station {
     // These are the mark's numbers.
     ghost holds: { Self.Mark → SavedString → Type 0 };
 
+    // What of a string the mark has no part in: the numbers of the other kind of station.
+    ghost Rest: { Type 0 };
+
+    ghost rest: { SavedDrive → SavedScript → Rest };
+
     // The meaning of what is seen of it.
     ghost seen: { Meaning (Seen Over Self.Mark) };
 
-    // Not a constant: in an impl with a lifetime the check gives that no clause.
+    // A function and not a constant: the check gives a constant no clause in an impl with a lifetime.
     fn kind() -> Kind
         ensures { result ≡ kind_is };
 
@@ -62,14 +71,15 @@ pub trait Kept: Station {
     fn mark(&self) -> Self::Mark
         ensures { result ≡ stands self.now };
 
-    // The mark of these numbers, or why none has them.
+    // The mark of these numbers, or an error where none has them.
     fn mark_in(state: &SavedString, lent: Self::Lent) -> Result<Self::Mark, NotSaved>
         ensures { MarkIn (within (lent_as lent)) holds state.now result };
 
     // The numbers of this mark in the place of those that were there.
     fn keep_mark(state: &mut SavedString, mark: Self::Mark)
         ensures holds { holds mark state.new }
-        ensures beside { SameBeside state.old state.new };
+        ensures beside { SameBeside state.old state.new }
+        ensures rest { rest state.new.drive state.new.script ≡ rest state.old.drive state.old.script };
 
     // Nothing that is not seen matters.
     ghost like: { SeenAs Self.Station.meaning seen (seen_of Self.Station.meaning lent_to stands) };
@@ -97,6 +107,10 @@ impl<'a> Kept for Drive<'a> {
     ghost within = { λ store. any_stage };
 
     ghost holds = { drive_holds };
+
+    ghost Rest = { SavedScript };
+
+    ghost rest = { λ drive script. script };
 
     ghost seen = { drive_seen };
 
@@ -127,6 +141,7 @@ impl<'a> Kept for Drive<'a> {
     fn keep_mark(state: &mut SavedString, mark: Stage)
         ensures holds { drive_holds mark state.new }
         ensures beside { SameBeside state.old state.new }
+        ensures rest { state.new.script ≡ state.old.script }
     {
         state.drive = SavedDrive::from(mark);
     }
@@ -150,6 +165,10 @@ impl<'a> Kept for Script<'a> {
     ghost within = { InTable };
 
     ghost holds = { script_holds };
+
+    ghost Rest = { SavedDrive };
+
+    ghost rest = { λ drive script. drive };
 
     ghost seen = { script_seen };
 
@@ -180,6 +199,7 @@ impl<'a> Kept for Script<'a> {
     fn keep_mark(state: &mut SavedString, mark: Place)
         ensures holds { script_holds mark state.new }
         ensures beside { SameBeside state.old state.new }
+        ensures rest { state.new.drive ≡ state.old.drive }
     {
         state.script = SavedScript::from(mark);
     }

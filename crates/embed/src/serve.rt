@@ -6,29 +6,30 @@ ghost use Rattle.script.specs.Scripts.{script_meaning};
 ghost use Rattle.embed.specs.States.{DriveString, ScriptString, KeptString, Numbers, PartsIn, Served, Serves};
 
 use super::kept::Kept;
-use super::refusal::{NoString, ServeRefusal};
+use super::refusal::ServeRefusal;
 use super::state::{Kind, Parts, SavedString};
 use breaker::{Breaker, Progress};
+use bus::address::StationAddress;
 use chip::chip::Ncr5385e;
 use drive::drive::Drive;
 use registers::answer::Answer;
 use registers::call::{CallRow, Ran, RunRefusal};
-use saved::addresses::address_of;
 use saved::numbers::{SavedBreaker, SavedChip};
+use saved::refusal::NotSaved;
 use script::row::Row;
 use script::script::Script;
 use scsi_string::ScsiString;
 
-// The parts of a string over such a station, or why no such string has these numbers.
-fn parts_in<S: Kept>(state: &SavedString, lent: S::Lent) -> Result<Parts<S::Mark>, NoString>
+// The parts of a string over such a station, or an error where no such string has these numbers.
+fn parts_in<S: Kept>(state: &SavedString, lent: S::Lent) -> Result<Parts<S::Mark>, NotSaved>
     ensures { PartsIn (S.within (S.lent_as lent)) S.holds S.kind_is state.now result }
 {
-    if Kind::try_from(state.kind)? != S::kind() {
-        return Err(NoString::OtherKind);
+    if Kind::try_from(state.kind).map_err(|_| NotSaved)? != S::kind() {
+        return Err(NotSaved);
     }
     let chip = Ncr5385e::try_from(state.chip)?;
     let progress = Progress::try_from(state.breaker)?;
-    let address = address_of(state.address)?;
+    let address = StationAddress::try_from(state.address)?;
     let mark = S::mark_in(state, lent)?;
     Ok(Parts {
         chip,
@@ -39,7 +40,8 @@ fn parts_in<S: Kept>(state: &SavedString, lent: S::Lent) -> Result<Parts<S::Mark
 }
 
 fn keep<S: Kept>(state: &mut SavedString, parts: Parts<S::Mark>)
-    ensures { Numbers S.kind_is S.holds parts state.new }
+    ensures numbers { Numbers S.kind_is S.holds parts state.new }
+    ensures rest { S.rest state.new.drive state.new.script ≡ S.rest state.old.drive state.old.script }
 {
     state.chip = SavedChip::from(parts.chip);
     state.breaker = SavedBreaker::from(parts.progress);
@@ -58,7 +60,8 @@ fn serve_parts<S: Kept + Drop>(
 ) -> Result<Ran, RunRefusal>
     requires within { S.within (S.lent_as lent) parts.mark }
     requires numbers { Numbers S.kind_is S.holds parts state.old }
-    ensures { Serves (breaker_meaning S.Station.meaning) (KeptString S.Station.meaning S.stands S.lent_to (S.lent_as lent) S.kind_is (S.within (S.lent_as lent)) S.holds) state.old calls.now answers.old state.new answers.new result }
+    ensures serves { Serves (breaker_meaning S.Station.meaning) (KeptString S.Station.meaning S.stands S.lent_to (S.lent_as lent) S.kind_is (S.within (S.lent_as lent)) S.holds) state.old calls.now answers.old state.new answers.new result }
+    ensures rest { S.rest state.new.drive state.new.script ≡ S.rest state.old.drive state.old.script }
 {
     let below = S::resumed(lent, parts.address, parts.mark);
     let station = Breaker::resume(below, parts.progress);
@@ -84,32 +87,38 @@ fn serve<S: Kept + Drop>(
     calls: &[CallRow],
     answers: &mut [Answer],
 ) -> Result<Ran, ServeRefusal>
-    ensures { Served (breaker_meaning S.Station.meaning) (KeptString S.Station.meaning S.stands S.lent_to (S.lent_as lent) S.kind_is (S.within (S.lent_as lent)) S.holds) state.old calls.now answers.old state.new answers.new result }
+    ensures served { Served (breaker_meaning S.Station.meaning) (KeptString S.Station.meaning S.stands S.lent_to (S.lent_as lent) S.kind_is (S.within (S.lent_as lent)) S.holds) state.old calls.now answers.old state.new answers.new result }
+    ensures rest { S.rest state.new.drive state.new.script ≡ S.rest state.old.drive state.old.script }
 {
-    let parts = parts_in::<S>(state, lent).map_err(ServeRefusal::NoString)?;
+    let Ok(parts) = parts_in::<S>(state, lent) else {
+        return Err(ServeRefusal::NoString);
+    };
     serve_parts::<S>(state, lent, parts, calls, answers).map_err(ServeRefusal::Run)
 }
 
-// Serves a string whose station is a drive. The arguments are those of a call from C, one by one, here and below it.
+// Serves a string whose station is a drive; the numbers of a script stay as they are. The arguments stay apart, here and in
+// what is called: an export to C hands over each for itself.
 pub fn serve_drive(
     state: &mut SavedString,
     image: &[u8],
     calls: &[CallRow],
     answers: &mut [Answer],
 ) -> Result<Ran, ServeRefusal>
-    ensures { Served (breaker_meaning drive_meaning) (DriveString image.now) state.old calls.now answers.old state.new answers.new result }
+    ensures served { Served (breaker_meaning drive_meaning) (DriveString image.now) state.old calls.now answers.old state.new answers.new result }
+    ensures rest { state.new.script ≡ state.old.script }
 {
     serve::<Drive>(state, image, calls, answers)
 }
 
-// Serves a string whose station is a script.
+// Serves a string whose station is a script; the numbers of a drive stay as they are.
 pub fn serve_script(
     state: &mut SavedString,
     rows: &[Row],
     calls: &[CallRow],
     answers: &mut [Answer],
 ) -> Result<Ran, ServeRefusal>
-    ensures { Served (breaker_meaning script_meaning) (ScriptString rows.now) state.old calls.now answers.old state.new answers.new result }
+    ensures served { Served (breaker_meaning script_meaning) (ScriptString rows.now) state.old calls.now answers.old state.new answers.new result }
+    ensures rest { state.new.drive ≡ state.old.drive }
 {
     serve::<Script>(state, rows, calls, answers)
 }

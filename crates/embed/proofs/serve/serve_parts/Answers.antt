@@ -7,8 +7,8 @@ use Rattle.embed.specs.declared.state.Parts.{Parts}
 use Rattle.embed.proofs.Keeping.{kept_run}
 use Rattle.embed.proofs.serve.serve_parts.Goals as goal
 
-pub returns : goal.returns
-returns g c =
+pub returns-clause-serves : goal.returns-clause-serves
+returns-clause-serves g c =
     let k = g.S.Kept in
     let m = g.S.Station.meaning in
     let law = g.met.S.Kept in
@@ -18,4 +18,4 @@ returns g c =
     kept_run m g.S.Station.lawful k.stands k.lent_to k.seen law.like k.kind_is lent (k.within lent) k.holds (law.names_one lent) (law.lasts lent)
     c.args.parts left c.args.state.now c.keep.new.state c.resumed-below.result c.into_below-below.result c.resume-station.result c.into_parts-station.result.1 c.args.calls.now c.args.answers.now c.run-ran.new.answers c.run-ran.result
     c.requires.within c.requires.numbers c.resumed-below.ensures c.resume-station.ensures.below c.resume-station.ensures.progress did
-    c.progress-progress.ensures c.into_below-below.ensures c.address.ensures c.mark.ensures c.keep.ensures
+    c.progress-progress.ensures c.into_below-below.ensures c.address.ensures c.mark.ensures c.keep.ensures.numbers
