@@ -65,7 +65,7 @@ impl TryFrom<u8> for Stage {
 // How far a breaker is, without the station below.
 #[derive(Clone, Copy, Debug, PartialEq, Eq)]
 pub struct Progress {
-    // It breaks after so many Data In bytes; zero is never.
+    // It breaks after so many Data In bytes; zero is never, for a breaker is made with such a number, and saved with it.
     pub after: u16,
     pub host: StationAddress,
     // The Data In bytes since the start or the last break.
