@@ -34,7 +34,7 @@ pub fn check<R: Linked>(records: &[R]) -> Result<usize, ChainRefusal>
     walk(records)
 }
 
-// A loop, which breaks with its answer: the count and the last record come from one and the same walk.
+// A loop, which breaks with its answer; an iterator is no plainer, for count and last record come from one and the same walk.
 #[tactic(auto, using(crate::proofs::Steps::led, crate::proofs::Keeps::empty, crate::proofs::Keeps::counted, crate::proofs::Keeps::refused, crate::proofs::Keeps::onward))]
 fn walk<R: Linked>(records: &[R]) -> Result<usize, ChainRefusal>
     ensures { result ≡ verdict R.Linked.next records.now }

@@ -5,7 +5,7 @@ ghost use Rattle.drive.specs.Commands.{no_command, decoded, reply, reply_to};
 
 use bus::status::Status;
 
-// The bytes of a command that came so far. A buffer with its length, since a station is a plain Copy struct with no heap.
+// The bytes of a command that came so far. A buffer with its length, since a stage is a plain value, without a heap.
 #[derive(Clone, Copy, Debug, PartialEq, Eq)]
 pub struct CommandBlock {
     pub bytes: [u8; 6],

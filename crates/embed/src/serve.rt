@@ -97,7 +97,7 @@ fn serve<S: Kept + Drop>(
 }
 
 // Serves a string whose station is a drive; the numbers of a script stay as they are. The arguments stay apart, here and in
-// what is called: an export to C hands over each for itself.
+// what is called, for the C interface that this is to be: it hands over each for itself.
 pub fn serve_drive(
     state: &mut SavedString,
     image: &[u8],

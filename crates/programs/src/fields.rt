@@ -106,7 +106,7 @@ pub struct Fields<'a> {
 }
 
 impl<'a> Fields<'a> {
-    // The words of a line, unless it has only a comment.
+    // The words of a line, unless there is none before a comment.
     pub fn of_line(line: &'a str, style: Style) -> Option<Self>
         ensures none { IsNone result ↔ (trim (before_first (λ b. b == 35) line.now) ≡ []) }
         ensures words { IfSome result (λ f. split_whitespace_rest f.words ≡ trim (before_first (λ b. b == 35) line.now)) }

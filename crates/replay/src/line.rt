@@ -66,7 +66,7 @@ fn call<'a>(fields: &mut Fields<'a>) -> Result<CallRow, Unexpected<'a>> {
     })
 }
 
-// What a line says, or nothing where it has only a comment.
+// What a line says, or nothing where no word stands before a comment.
 pub fn line_of(text: &str) -> Result<Option<Line<'_>>, Unexpected<'_>> {
     let Some(mut fields) = Fields::of_line(text, STYLE) else {
         return Ok(None);

@@ -81,7 +81,8 @@ impl From<Ncr5385e> for SavedChip {
     }
 }
 
-// A function, since neither a byte nor a flag is a type of ours.
+// A function: neither a byte nor a flag is a type of ours, so no TryFrom can stand between them (it was tried), and a type of
+// our own for a flag of C would be no plainer.
 fn flag_of(number: u8) -> Result<bool, NotSaved>
     ensures { Unpacks flag_number number result }
 {

@@ -10,6 +10,7 @@ use thiserror::Error;
 #[error("no value has these numbers")]
 pub struct NotSaved;
 
+// Four impls by hand: `map_err` in their place was tried, and the proof of a chip's invariants did not close.
 impl From<NoSuchAddress> for NotSaved {
     fn from(_none: NoSuchAddress) -> NotSaved {
         NotSaved
