@@ -23,8 +23,7 @@ fn finish<W: Write>(heap: Global, out: &mut W, session: &Option<Session>) -> Res
         None => Ok(()),
         Some(session) => {
             let placed = session.placed.as_ref().ok_or(Fault::NoStation)?;
-            write!(out, "{}", play(heap, placed)?)?;
-            Ok(())
+            play(heap, out, placed)
         }
     }
 }
