@@ -127,6 +127,7 @@ impl Ncr5385e {
     }
 
     // Bytes lost, if any were.
+    #[inline(always)]
     pub(crate) fn loss(&self, lost: Option<Loss>) -> Answer
         ensures { result ≡ loss (lost_count lost) (lost_phase lost) (model self.now) }
     {

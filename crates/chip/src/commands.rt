@@ -48,7 +48,9 @@ impl Ncr5385e {
         }
     }
 
-    // The written byte, where there is one.
+    // The written byte, where there is one. Inlined, like all that is asked at a loss: most calls lose nothing, and a reset is
+    // then a few writes.
+    #[inline(always)]
     fn written_byte(&self) -> Option<Loss>
         ensures count { lost_count result ≡ (if is_some self.now.written then 1 else 0) }
         ensures phase { lost_phase result ≡ written_phase self.now.written }
@@ -60,6 +62,7 @@ impl Ncr5385e {
     }
 
     // All that is held: received bytes, or else a written one.
+    #[inline(always)]
     fn held_bytes(&self) -> Option<Loss>
         ensures count { lost_count result ≡ held_count (model self.now).received self.now.written }
         ensures phase { lost_phase result ≡ held_phase self.now.latched (model self.now).received self.now.written }
@@ -74,6 +77,7 @@ impl Ncr5385e {
     }
 
     // Taken down before all that is held goes, and ACK with it.
+    #[inline(always)]
     fn parting(&self) -> Parting
         ensures reaction { result.reaction ≡ dropping_ack self.now.flags.ack }
         ensures count { lost_count result.lost ≡ held_count (model self.now).received self.now.written }
@@ -86,6 +90,7 @@ impl Ncr5385e {
     }
 
     // Told when they are gone.
+    #[inline(always)]
     fn part(&self, parting: Parting) -> Response
         ensures { outcome (model self.now) result ≡ gives (model self.now) parting.reaction (loss (lost_count parting.lost) (lost_phase parting.lost) (model self.now)) }
     {

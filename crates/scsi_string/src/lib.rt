@@ -85,7 +85,8 @@ impl<S: Station> ScsiString<S> {
         self.chip.held_data()
     }
 
-    // Makes a call.
+    // Makes a call. Inlined, with what it calls, so that each single call comes down to its own case.
+    #[inline(always)]
     pub fn make(&mut self, call: Call) -> Answer
         ensures { Makes S.meaning call (values self.old) result (values self.new) }
     {
@@ -196,6 +197,7 @@ impl<S: Station> ScsiString<S> {
 
     // The station hears of it in each case by itself, for speed: heard of in one place behind the cases, a call took 164
     // instructions, and 144 when each call had a function of its own.
+    #[inline(always)]
     fn step(&mut self, call: Call) -> Answer
         ensures answer { result ≡ (step_of S.meaning call (values self.old)).answer }
         ensures after { values self.new ≡ (step_of S.meaning call (values self.old)).left }
@@ -242,6 +244,7 @@ impl<S: Station> ScsiString<S> {
     }
 
     // The station is told where the chip says so. Only a turn has it chosen.
+    #[inline(always)]
     fn hear(&mut self, response: Response) -> Answer
         ensures answer { result ≡ response.answer }
         ensures after { values self.new ≡ line (values self.old).chip (heard S.meaning response.reaction self.old.station) }
