@@ -43,7 +43,9 @@ impl<'a> Iterator for Record<'a> {
 
     ghost remaining = { item_count bytes_left };
 
+    // Inlined, since two records are read side by side.
     #[tactic(auto, using(crate::proofs::Reading::without_answers))]
+    #[inline(always)]
     fn next(&mut self) -> Option<u8> {
         while let ([call, calls @ ..], [answer, answers @ ..]) = (self.calls, self.answers) {
             self.calls = calls;
@@ -56,8 +58,8 @@ impl<'a> Iterator for Record<'a> {
     }
 }
 
-// Whether two records are equal: the Data In bytes read by two lists of calls, in their order.
-#[tactic(auto, using(crate::proofs::Reading::left_after, crate::proofs::Reading::past_equal))]
+// Whether two records are equal: the Data In bytes read by two lists of calls, in their order. They are read side by side: the end
+// of the one has to be the end of the other.
 pub fn same_record(
     calls: &[CallRow],
     answers: &[Answer],
@@ -66,10 +68,16 @@ pub fn same_record(
 ) -> bool
     ensures { result ≡ same (record_in calls.now answers.now) (record_in other_calls.now other_answers.now) }
 {
-    let record = Record { calls, answers };
-    let other = Record {
+    let mut record = Record { calls, answers };
+    let mut other = Record {
         calls: other_calls,
         answers: other_answers,
     };
-    record.eq(other)
+    while let Some(byte) = record.next() {
+        match other.next() {
+            Some(other_byte) if other_byte == byte => {}
+            _ => return false,
+        }
+    }
+    other.next().is_none()
 }
