@@ -1,5 +1,5 @@
 -- What number a word writes.
-use Rattle.std.specs.Prelude.{ℕ, List, [], ◌∷◌, ◌≡◌, Bool, false, cond, drop, codes, nat_eq, Option, Some, ◌<◌, ◌≤◌, ◌^◌}
+use Rattle.std.specs.Prelude.{ℕ, zero, suc, List, [], ◌∷◌, ◌≡◌, Bool, false, cond, drop, codes, nat_eq, Option, Some, ◌<◌, ◌≤◌, ◌^◌}
 use Rattle.std.specs.Borrow.{Bor}
 use Rattle.std.specs.declared.str.SplitWhitespace.{SplitWhitespace}
 use Rattle.std.specs.Str.Iter.{split_whitespace_steps}
@@ -22,7 +22,7 @@ abbrev pub Writes : Notation → List ℕ → Option ℕ → Type 0
 Writes n word = cond (is_hex n word) (DigitsWrite 16 (drop 2 word)) (DigitsWrite 10 word)
 
 -- the next word writes the number
-abbrev pub WritesNext : Notation → SplitWhitespace → ℕ → SplitWhitespace → Type 0
+unfoldable pub WritesNext : Notation → SplitWhitespace → ℕ → SplitWhitespace → Type 0
 WritesNext n s number t = (w : Bor (List ℕ)) × split_whitespace_steps s (Some w) t × Writes n w.now (Some number)
 
 -- the word writes no number up to the bound
@@ -33,6 +33,11 @@ WritesNoneUpTo n most w = (number : ℕ) → number ≤ most → ¬ (Writes n w.
 abbrev pub WritesAll : Notation → SplitWhitespace → List ℕ → SplitWhitespace → Type 0
 WritesAll n s [] t = s ≡ t
 WritesAll n s (number ∷ numbers) t = (u : SplitWhitespace) × WritesNext n s number u × WritesAll n u numbers t
+
+-- the next words write so many bytes, one after the other
+abbrev pub WritesBytes : Notation → SplitWhitespace → ℕ → SplitWhitespace → Type 0
+WritesBytes n s zero t = s ≡ t
+WritesBytes n s (suc k) t = (number : ℕ) × number ≤ 255 × (u : SplitWhitespace) × WritesNext n s number u × WritesBytes n u k t
 
 -- the last word that was taken is found, or none was left
 abbrev pub FindsLast : Option (Bor (List ℕ)) → SplitWhitespace → Type 0

@@ -4,7 +4,7 @@ ghost use Rattle.std.specs.List.{before_first};
 ghost use Rattle.std.specs.Str.{trim};
 ghost use Rattle.std.specs.Str.Iter.{split_whitespace_rest, split_whitespace_steps};
 ghost use Rattle.programs.specs.Numbers.{DigitsWrite, Writes, WritesNext, WritesNoneUpTo, WritesAll, FindsLast};
-ghost use Rattle.programs.specs.Texts.{expected_text, unexpected_text, TellsNext};
+ghost use Rattle.programs.specs.Texts.{expected_text, unexpected_text, TellsNext, TellsRow};
 ghost use Rattle.programs.specs.declared.fields.Expected.TheVariants.{Words, Number};
 
 use script::row::Row;
@@ -136,6 +136,7 @@ impl<'a> Fields<'a> {
     }
 
     // The next word, which is a number up to the bound.
+    #[tactic(auto, unfolding(crate::specs::Numbers::WritesNext))]
     pub fn number(&mut self, name: &'static str, most: u32) -> Result<u32, Unexpected<'a>>
         ensures bound { IfOk result (λ n. n ≤ most) }
         ensures ok { IfOk result (λ n. WritesNext self.old.style.notation self.old.words n self.new.words) }
@@ -169,6 +170,7 @@ impl<'a> Fields<'a> {
     pub fn row(&mut self, names: [&'static str; 5]) -> Result<Row, Unexpected<'a>>
         ensures ok { IfOk result (λ r. WritesAll self.old.style.notation self.old.words (r.kind ∷ r.phase ∷ r.byte ∷ r.parity ∷ r.next ∷ []) self.new.words) }
         ensures err { IfErr result (λ e. FindsLast e.found self.new.words) }
+        ensures told { IfErr result (TellsRow self.old.style.notation self.old.style.range names.entry self.old.words self.new.words) }
         ensures refused { IfErr result (λ e. IfSome e.found (WritesNoneUpTo self.old.style.notation 255)) }
         ensures style { self.new.style ≡ self.old.style }
     {
